@@ -1,0 +1,44 @@
+-- What follows from the tests of the definitions, and the sides of a corner as the code computes them. Assumes nothing.
+use mathlib.Core.Path.{_≡_}
+use mathlib.Core.Bool.{Bool, true, _&&_, and-eq-true-iff}
+use Prim.Native.Nat.{ℕ, zero, suc, _+_, _/_, _%_, _^_, _<_, _≤_}
+use native.Mathlib.Omega.{arith}
+use borrow.Author.Tests.{ltb-true, leb-true}
+use lib.Dec.{leb, ltb, eqb, eqb→eq}
+use lib.Pow.{pow-mono}
+use Rattle.foundation.specs.Lists.{allBelow, below}
+use Rattle.definitions.specs.Jacobian.{side}
+use Rattle.definitions.specs.Address.{Address, isCell, isCorner}
+
+pub both : (x y : Bool) → (x && y) ≡ true → (x ≡ true) × (y ≡ true)
+both x y = and-eq-true-iff x y .0
+
+-- A cell's numbers are small, and a corner has a number from 1 to 8.
+pub record Bounded (depth : ℕ) (q : Address) (n : ℕ) : Type 0 where
+  pub level : q .level ≤ depth
+  pub a : q .a < 2 ^ depth
+  pub b : q .b < 2 ^ depth
+  pub c : q .c < 2 ^ depth
+  pub first : 1 ≤ n
+  pub last : n ≤ 8
+
+pub bounded : (depth : ℕ) (q : Address) (n : ℕ) → isCell depth q ≡ true → isCorner n ≡ true → Bounded depth q n
+unfolding isCell
+bounded depth q n cell corner =
+    let level = both (leb (q .level) depth) _ cell in
+    let a = both (ltb (q .a) (2 ^ q .level)) _ (level .1) in
+    let b = both (ltb (q .b) (2 ^ q .level)) _ (a .1) in
+    let first = both (leb 1 n) _ corner in
+    omega (arith, leb-true, ltb-true, pow-mono (leb-true (q .level) depth (level .0)))
+
+-- The side of corner k in direction d, as the code computes it.
+abbrev computed : ℕ → ℕ → ℕ
+computed zero k = (k + 1) / 2 % 2
+computed (suc zero) k = k / 2 % 2
+computed (suc (suc d)) k = k / 4
+
+abbrev agrees : ℕ → ℕ → Bool
+agrees d k = eqb (side d k) (computed d k)
+
+pub side-computed : (k : ℕ) → k < 8 → (d : ℕ) → d < 3 → side d k ≡ computed d k
+side-computed k h d p = eqb→eq _ _ (below (agrees d) 8 (below (λ e. allBelow 8 (agrees e)) 3 tt d p) k h)

@@ -1,0 +1,113 @@
+-- Document 01, "Elements to try": the starred lines, as a single list under one claim.
+use mathlib.Core.Path.{_≡_, refl}
+use mathlib.Core.List.{List, [], _∷_, _++_}
+use Prim.Native.Nat.{ℕ}
+use lib.IntN.{ℤ, pos, negsuc}
+use Rattle.foundation.specs.Lists.{All}
+use Rattle.definitions.specs.Limits.{base}
+use Rattle.definitions.specs.Jacobian.{jacobian, held}
+use Rattle.definitions.specs.Coefficients.{numbered, at, coefficients}
+use Rattle.definitions.specs.Subdivision.{halve, child, children, whole}
+use Rattle.definitions.specs.Verdict.{cornersOf, coefficientsOf, lowPoint, lowCoefficient, lastLevel, validLevel, verdict, openedBelow, opened}
+use Rattle.definitions.specs.Bounds.{low, high}
+use Rattle.definitions.specs.Record.{recordOf}
+use Rattle.definitions.specs.Mesh.{refusal, pointsOf, outOfRange, faultOf, elementRecord, records, report, accepted, refused, badSpace, inspection, reportAfter, sound, faulty, stampOf, bounds, boundsOf}
+
+-- A: the unit cube
+abbrev pub unitCube : List ℤ
+unitCube = pos 0 ∷ pos 0 ∷ pos 0 ∷ pos 1 ∷ pos 0 ∷ pos 0 ∷ pos 1 ∷ pos 1 ∷ pos 0 ∷ pos 0 ∷ pos 1 ∷ pos 0 ∷ pos 0 ∷ pos 0 ∷ pos 1 ∷ pos 1 ∷ pos 0 ∷ pos 1 ∷ pos 1 ∷ pos 1 ∷ pos 1 ∷ pos 0 ∷ pos 1 ∷ pos 1 ∷ []
+
+-- B: all eight nodes at one point
+abbrev pub onePoint : List ℤ
+onePoint = pos 5 ∷ pos 5 ∷ pos 5 ∷ pos 5 ∷ pos 5 ∷ pos 5 ∷ pos 5 ∷ pos 5 ∷ pos 5 ∷ pos 5 ∷ pos 5 ∷ pos 5 ∷ pos 5 ∷ pos 5 ∷ pos 5 ∷ pos 5 ∷ pos 5 ∷ pos 5 ∷ pos 5 ∷ pos 5 ∷ pos 5 ∷ pos 5 ∷ pos 5 ∷ pos 5 ∷ []
+
+-- C: the unit cube, nodes 1-4 exchanged with 5-8
+abbrev pub turned : List ℤ
+turned = pos 0 ∷ pos 0 ∷ pos 1 ∷ pos 1 ∷ pos 0 ∷ pos 1 ∷ pos 1 ∷ pos 1 ∷ pos 1 ∷ pos 0 ∷ pos 1 ∷ pos 1 ∷ pos 0 ∷ pos 0 ∷ pos 0 ∷ pos 1 ∷ pos 0 ∷ pos 0 ∷ pos 1 ∷ pos 1 ∷ pos 0 ∷ pos 0 ∷ pos 1 ∷ pos 0 ∷ []
+
+-- D: the flat square, its top turned by a quarter
+abbrev pub quarterTwist : List ℤ
+quarterTwist = negsuc 0 ∷ negsuc 0 ∷ pos 0 ∷ pos 1 ∷ negsuc 0 ∷ pos 0 ∷ pos 1 ∷ pos 1 ∷ pos 0 ∷ negsuc 0 ∷ pos 1 ∷ pos 0 ∷ pos 1 ∷ negsuc 0 ∷ pos 1 ∷ pos 1 ∷ pos 1 ∷ pos 1 ∷ negsuc 0 ∷ pos 1 ∷ pos 1 ∷ negsuc 0 ∷ negsuc 0 ∷ pos 1 ∷ []
+
+-- E: the flat square, its top turned by a half
+abbrev pub halfTwist : List ℤ
+halfTwist = negsuc 0 ∷ negsuc 0 ∷ pos 0 ∷ pos 1 ∷ negsuc 0 ∷ pos 0 ∷ pos 1 ∷ pos 1 ∷ pos 0 ∷ negsuc 0 ∷ pos 1 ∷ pos 0 ∷ pos 1 ∷ pos 1 ∷ pos 1 ∷ negsuc 0 ∷ pos 1 ∷ pos 1 ∷ negsuc 0 ∷ negsuc 0 ∷ pos 1 ∷ pos 1 ∷ negsuc 0 ∷ pos 1 ∷ []
+
+-- F: as E, the top twice as wide
+abbrev pub wideTwist : List ℤ
+wideTwist = negsuc 0 ∷ negsuc 0 ∷ pos 0 ∷ pos 1 ∷ negsuc 0 ∷ pos 0 ∷ pos 1 ∷ pos 1 ∷ pos 0 ∷ negsuc 0 ∷ pos 1 ∷ pos 0 ∷ pos 2 ∷ pos 2 ∷ pos 1 ∷ negsuc 1 ∷ pos 2 ∷ pos 1 ∷ negsuc 1 ∷ negsuc 1 ∷ pos 1 ∷ pos 2 ∷ negsuc 1 ∷ pos 1 ∷ []
+
+-- G: a cube of side 3 with node 1 at (1,1,1)
+abbrev pub dented : List ℤ
+dented = pos 1 ∷ pos 1 ∷ pos 1 ∷ pos 3 ∷ pos 0 ∷ pos 0 ∷ pos 3 ∷ pos 3 ∷ pos 0 ∷ pos 0 ∷ pos 3 ∷ pos 0 ∷ pos 0 ∷ pos 0 ∷ pos 3 ∷ pos 3 ∷ pos 0 ∷ pos 3 ∷ pos 3 ∷ pos 3 ∷ pos 3 ∷ pos 0 ∷ pos 3 ∷ pos 3 ∷ []
+
+-- H: the unit cube with node 3's y at 4,097
+abbrev pub tooFar : List ℤ
+tooFar = pos 0 ∷ pos 0 ∷ pos 0 ∷ pos 1 ∷ pos 0 ∷ pos 0 ∷ pos 1 ∷ pos 4097 ∷ pos 0 ∷ pos 0 ∷ pos 1 ∷ pos 0 ∷ pos 0 ∷ pos 0 ∷ pos 1 ∷ pos 1 ∷ pos 0 ∷ pos 1 ∷ pos 1 ∷ pos 1 ∷ pos 1 ∷ pos 0 ∷ pos 1 ∷ pos 1 ∷ []
+
+-- H: the cube from −4,096 to 4,096
+abbrev pub largest : List ℤ
+largest = negsuc 4095 ∷ negsuc 4095 ∷ negsuc 4095 ∷ pos 4096 ∷ negsuc 4095 ∷ negsuc 4095 ∷ pos 4096 ∷ pos 4096 ∷ negsuc 4095 ∷ negsuc 4095 ∷ pos 4096 ∷ negsuc 4095 ∷ negsuc 4095 ∷ negsuc 4095 ∷ pos 4096 ∷ pos 4096 ∷ negsuc 4095 ∷ pos 4096 ∷ pos 4096 ∷ pos 4096 ∷ pos 4096 ∷ negsuc 4095 ∷ pos 4096 ∷ pos 4096 ∷ []
+
+-- the eight nodes in order, and with the fourth index past them
+abbrev pub inOrder : List ℕ
+inOrder = 0 ∷ 1 ∷ 2 ∷ 3 ∷ 4 ∷ 5 ∷ 6 ∷ 7 ∷ []
+
+abbrev pub missingFourth : List ℕ
+missingFourth = 0 ∷ 1 ∷ 2 ∷ 8 ∷ 4 ∷ 5 ∷ 6 ∷ 7 ∷ []
+
+-- eight nodes, an element's indices, a depth, and the element's record at it
+pub record Example : Type 0 where
+  pub nodes : List ℤ
+  pub indices : List ℕ
+  pub depth : ℕ
+  pub answer : List ℤ
+
+abbrev pub starred : List Example
+starred =
+    record { nodes = unitCube; indices = inOrder; depth = 0; answer = pos 0 ∷ pos 0 ∷ pos 0 ∷ pos 0 ∷ pos 0 ∷ pos 0 ∷ pos 0 ∷ pos 1 ∷ [] } ∷
+    record { nodes = onePoint; indices = inOrder; depth = 0; answer = pos 1 ∷ pos 0 ∷ pos 0 ∷ pos 0 ∷ pos 0 ∷ pos 1 ∷ pos 0 ∷ pos 1 ∷ [] } ∷
+    record { nodes = turned; indices = inOrder; depth = 0; answer = pos 1 ∷ pos 0 ∷ pos 0 ∷ pos 0 ∷ pos 0 ∷ pos 1 ∷ negsuc 7 ∷ pos 1 ∷ [] } ∷
+    record { nodes = quarterTwist; indices = inOrder; depth = 0; answer = pos 2 ∷ pos 0 ∷ pos 0 ∷ pos 0 ∷ pos 0 ∷ pos 13 ∷ pos 0 ∷ pos 1 ∷ [] } ∷
+    record { nodes = quarterTwist; indices = inOrder; depth = 1; answer = pos 0 ∷ pos 1 ∷ pos 0 ∷ pos 0 ∷ pos 0 ∷ pos 0 ∷ pos 0 ∷ pos 9 ∷ [] } ∷
+    record { nodes = halfTwist; indices = inOrder; depth = 0; answer = pos 2 ∷ pos 0 ∷ pos 0 ∷ pos 0 ∷ pos 0 ∷ pos 13 ∷ negsuc 31 ∷ pos 1 ∷ [] } ∷
+    record { nodes = halfTwist; indices = inOrder; depth = 1; answer = pos 1 ∷ pos 1 ∷ pos 0 ∷ pos 0 ∷ pos 1 ∷ pos 5 ∷ pos 0 ∷ pos 2 ∷ [] } ∷
+    record { nodes = wideTwist; indices = inOrder; depth = 0; answer = pos 2 ∷ pos 0 ∷ pos 0 ∷ pos 0 ∷ pos 0 ∷ pos 13 ∷ negsuc 63 ∷ pos 1 ∷ [] } ∷
+    record { nodes = dented; indices = inOrder; depth = 0; answer = pos 1 ∷ pos 0 ∷ pos 0 ∷ pos 0 ∷ pos 0 ∷ pos 1 ∷ pos 0 ∷ pos 1 ∷ [] } ∷
+    record { nodes = tooFar; indices = inOrder; depth = 0; answer = pos 6 ∷ pos 3 ∷ pos 2 ∷ pos 0 ∷ pos 0 ∷ pos 0 ∷ pos 0 ∷ pos 0 ∷ [] } ∷
+    record { nodes = largest; indices = inOrder; depth = 0; answer = pos 0 ∷ pos 0 ∷ pos 0 ∷ pos 0 ∷ pos 0 ∷ pos 0 ∷ pos 0 ∷ pos 1 ∷ [] } ∷
+    record { nodes = unitCube; indices = missingFourth; depth = 0; answer = pos 5 ∷ pos 4 ∷ pos 8 ∷ pos 0 ∷ pos 0 ∷ pos 0 ∷ pos 0 ∷ pos 0 ∷ [] } ∷ []
+
+-- The one claim.
+pub starred-hold : All (λ e. elementRecord base (e .nodes) (e .indices) (e .depth) ≡ e .answer) starred
+unfolding jacobian held numbered at coefficients halve child children whole cornersOf coefficientsOf lowPoint lowCoefficient lastLevel validLevel verdict openedBelow opened recordOf pointsOf outOfRange faultOf elementRecord
+starred-hold = (refl, (refl, (refl, (refl, (refl, (refl, (refl, (refl, (refl, (refl, (refl, (refl, tt))))))))))))
+
+-- D at depth 1: "bounds 1,024 and 1,024"
+pub twist-bounds : boundsOf base quarterTwist 1 ≡ bounds (pos 1024) (pos 1024)
+unfolding jacobian held numbered at coefficients halve child children whole cornersOf coefficientsOf low high outOfRange boundsOf
+twist-bounds = refl
+
+-- ---- a mesh of two elements, the second with a missing node, and room for 16 words
+abbrev pub twoElements : List ℕ
+twoElements = inOrder ++ missingFourth
+
+abbrev pub space : List ℤ
+space = pos 7 ∷ pos 7 ∷ pos 7 ∷ pos 7 ∷ pos 7 ∷ pos 7 ∷ pos 7 ∷ pos 7 ∷ pos 7 ∷ pos 7 ∷ pos 7 ∷ pos 7 ∷ pos 7 ∷ pos 7 ∷ pos 7 ∷ pos 7 ∷ []
+
+pub mesh-report : reportAfter base unitCube twoElements space 0 ≡ pos 0 ∷ pos 0 ∷ pos 0 ∷ pos 0 ∷ pos 0 ∷ pos 0 ∷ pos 0 ∷ pos 1 ∷ pos 5 ∷ pos 4 ∷ pos 8 ∷ pos 0 ∷ pos 0 ∷ pos 0 ∷ pos 0 ∷ pos 0 ∷ []
+unfolding jacobian held numbered at coefficients halve child children whole cornersOf coefficientsOf lowPoint lowCoefficient lastLevel validLevel verdict openedBelow opened recordOf pointsOf outOfRange faultOf elementRecord refusal records report reportAfter
+mesh-report = refl
+
+pub mesh-answer : inspection base unitCube twoElements 16 0 ≡ accepted (record { valid = 1; invalid = 0; undecided = 0; refused = 1 })
+unfolding jacobian held numbered at coefficients halve child children whole cornersOf coefficientsOf lowPoint lowCoefficient lastLevel validLevel verdict openedBelow opened recordOf pointsOf outOfRange faultOf elementRecord refusal records inspection
+mesh-answer = refl
+
+pub mesh-stamp : stampOf (inspection base unitCube twoElements 16 0) ≡ faulty
+unfolding jacobian held numbered at coefficients halve child children whole cornersOf coefficientsOf lowPoint lowCoefficient lastLevel validLevel verdict openedBelow opened recordOf pointsOf outOfRange faultOf elementRecord refusal records inspection stampOf
+mesh-stamp = refl
+
+-- one word short: refused with 4, the space as it was
+pub short-answer : inspection base unitCube twoElements 15 0 ≡ refused badSpace
+unfolding refusal inspection
+short-answer = refl

@@ -1,0 +1,10 @@
+pub mod Limits
+pub mod Jacobian
+pub mod Coefficients
+pub mod Subdivision
+pub mod Address
+pub mod Verdict
+pub mod Bounds
+pub mod Record
+pub mod Mesh
+pub mod Examples

@@ -1,0 +1,157 @@
+-- Document 01, "When the desk says no": which meshes and elements are refused, the report of an accepted mesh, its counts and stamp, the bounds service.
+use mathlib.Core.Bool.{Bool, true, false, not, _&&_, _||_}
+use mathlib.Core.List.{List, [], _∷_, map}
+use mathlib.Core.Option.{Option, none, some}
+use Prim.Native.Nat.{ℕ, zero, suc, _+_, _*_, _/_, _%_}
+use lib.Dec.{eqb, leb, ltb}
+use lib.ListN.{getD, length, take, drop}
+use lib.IntN.{ℤ, pos, natAbs}
+use Rattle.foundation.specs.Lists.{concatMap, tabulate}
+use Rattle.definitions.specs.Limits.{Limits}
+use Rattle.definitions.specs.Bounds.{low, high}
+use Rattle.definitions.specs.Record.{Fault, missing, outside, faultWords, recordOf}
+
+-- "1 to 4 are tested in that order, and given only then."
+pub data Refusal : Type 0 where
+  depthTooGreat : Refusal
+  badCoordinates : Refusal
+  badIndices : Refusal
+  badSpace : Refusal
+
+abbrev pub refusalNumber : Refusal → ℕ
+refusalNumber depthTooGreat = 1
+refusalNumber badCoordinates = 2
+refusalNumber badIndices = 3
+refusalNumber badSpace = 4
+
+-- a run of n numbers is a whole number of groups of k, and at most `most` of them
+abbrev pub wellSized : ℕ → ℕ → ℕ → Bool
+wellSized n k most = eqb (n % k) 0 && leb (n / k) most
+
+-- The lengths of the coordinate run, of the index run and of the report space, and the depth.
+unfoldable pub refusal : Limits → ℕ → ℕ → ℕ → ℕ → Option Refusal
+refusal L coordinates indices space D =
+    elim (ltb (L .depth) D) [
+      | true ↦ some depthTooGreat
+      | false ↦
+          elim (wellSized coordinates 3 (L .nodes)) [
+            | false ↦ some badCoordinates
+            | true ↦
+                elim (wellSized indices 8 (L .elements)) [
+                  | false ↦ some badIndices
+                  | true ↦
+                      elim (eqb space (L .words * (indices / 8))) [ false ↦ some badSpace | true ↦ none ]
+                ]
+          ]
+    ]
+
+-- the first of i, i + 1, .., n of them, at which p holds
+abbrev pub firstFrom : (ℕ → Bool) → ℕ → ℕ → Option ℕ
+firstFrom p i zero = none
+firstFrom p i (suc n) = elim (p i) [ true ↦ some i | false ↦ firstFrom p (suc i) n ]
+
+-- "A usable coordinate lies in −range..range"
+abbrev pub usable : Limits → ℤ → Bool
+usable L z = leb (natAbs z) (L .range)
+
+-- "An element's eight points are the nodes that its indices name, in place order."
+unfoldable pub pointsOf : List ℤ → List ℕ → List ℤ
+pointsOf coordinates ix = tabulate (λ k. getD coordinates (3 * getD ix (k / 3) 0 + k % 3) (pos 0)) 0 24
+
+-- the first of the 24 coordinates that is out of range, place by place and in each x, y, z
+unfoldable pub outOfRange : Limits → List ℤ → Option ℕ
+outOfRange L xs = firstFrom (λ k. not (usable L (getD xs k (pos 0)))) 0 24
+
+-- "Within an element all eight indices are tested before any coordinate; lowest place first, then x, y, z."
+unfoldable pub faultOf : Limits → List ℤ → List ℕ → Option Fault
+faultOf L coordinates ix = elim (firstFrom (λ k. leb (length coordinates / 3) (getD ix k 0)) 0 8) [
+  | some k ↦ some (missing (suc k) (getD ix k 0))
+  | none ↦ elim (outOfRange L (pointsOf coordinates ix)) [ some k ↦ some (outside (suc (k / 3)) (suc (k % 3))) | none ↦ none ]
+]
+
+unfoldable pub elementRecord : Limits → List ℤ → List ℕ → ℕ → List ℤ
+elementRecord L coordinates ix D = elim (faultOf L coordinates ix) [ some f ↦ faultWords f | none ↦ recordOf (pointsOf coordinates ix) D ]
+
+-- the records of an accepted mesh, element by element, and its report
+unfoldable pub records : Limits → List ℤ → List ℕ → ℕ → List (List ℤ)
+records L coordinates indices D = tabulate (λ e. elementRecord L coordinates (take 8 (drop (8 * e) indices)) D) 0 (length indices / 8)
+
+unfoldable pub report : Limits → List ℤ → List ℕ → ℕ → List ℤ
+report L coordinates indices D = concatMap (λ r. r) (records L coordinates indices D)
+
+-- "four counts: valid, invalid, undecided, refused … each being the number of records of its kind"
+pub record Counts : Type 0 where
+  pub valid : ℕ
+  pub invalid : ℕ
+  pub undecided : ℕ
+  pub refused : ℕ
+
+abbrev pub noCounts : Counts
+noCounts = record { valid = 0; invalid = 0; undecided = 0; refused = 0 }
+
+-- one record more, by its word 0
+abbrev pub counted : ℕ → Counts → Counts
+counted zero n = record { valid = suc (n .valid); invalid = n .invalid; undecided = n .undecided; refused = n .refused }
+counted (suc zero) n = record { valid = n .valid; invalid = suc (n .invalid); undecided = n .undecided; refused = n .refused }
+counted (suc (suc zero)) n = record { valid = n .valid; invalid = n .invalid; undecided = suc (n .undecided); refused = n .refused }
+counted (suc (suc (suc k))) n = record { valid = n .valid; invalid = n .invalid; undecided = n .undecided; refused = suc (n .refused) }
+
+abbrev pub countsOf : List (List ℤ) → Counts
+countsOf [] = noCounts
+countsOf (r ∷ rs) = counted (natAbs (getD r 0 (pos 0))) (countsOf rs)
+
+-- The answer of an inspection: number 0 with the counts, or the refusal's number with counts 0.
+pub data Inspection : Type 0 where
+  accepted : Counts → Inspection
+  refused : Refusal → Inspection
+
+abbrev pub inspectionNumber : Inspection → ℕ
+inspectionNumber (accepted n) = 0
+inspectionNumber (refused r) = refusalNumber r
+
+abbrev pub inspectionCounts : Inspection → Counts
+inspectionCounts (accepted n) = n
+inspectionCounts (refused r) = noCounts
+
+unfoldable pub inspection : Limits → List ℤ → List ℕ → ℕ → ℕ → Inspection
+inspection L coordinates indices space D = elim (refusal L (length coordinates) (length indices) space D) [
+  | some r ↦ refused r
+  | none ↦ accepted (countsOf (records L coordinates indices D))
+]
+
+-- the report space afterwards: "untouched" where the mesh is refused
+unfoldable pub reportAfter : Limits → List ℤ → List ℕ → List ℤ → ℕ → List ℤ
+reportAfter L coordinates indices space D = elim (refusal L (length coordinates) (length indices) (length space) D) [ some r ↦ space | none ↦ report L coordinates indices D ]
+
+-- "The lot's stamp is "sound" when no record is invalid or refused, else "faulty"." A mesh that was refused is faulty: nothing of it was inspected.
+pub data Stamp : Type 0 where
+  sound : Stamp
+  faulty : Stamp
+
+unfoldable pub stampOf : Inspection → Stamp
+stampOf (accepted n) = elim (eqb (n .invalid + n .refused) 0) [ true ↦ sound | false ↦ faulty ]
+stampOf (refused r) = faulty
+
+-- "The bounds service … answers 0 with both bounds. It refuses with 1 and then 6 and no other, by number alone, and both bounds are then 0."
+pub data Bounds : Type 0 where
+  bounds : (low high : ℤ) → Bounds
+  tooDeep : Bounds
+  outOfLimits : Bounds
+
+abbrev pub boundsNumber : Bounds → ℕ
+boundsNumber (bounds l h) = 0
+boundsNumber tooDeep = 1
+boundsNumber outOfLimits = 6
+
+abbrev pub boundsLow : Bounds → ℤ
+boundsLow (bounds l h) = l
+boundsLow tooDeep = pos 0
+boundsLow outOfLimits = pos 0
+
+abbrev pub boundsHigh : Bounds → ℤ
+boundsHigh (bounds l h) = h
+boundsHigh tooDeep = pos 0
+boundsHigh outOfLimits = pos 0
+
+unfoldable pub boundsOf : Limits → List ℤ → ℕ → Bounds
+boundsOf L xs D = elim (ltb (L .depth) D) [ true ↦ tooDeep | false ↦ elim (outOfRange L xs) [ some k ↦ outOfLimits | none ↦ bounds (low xs D) (high xs D) ] ]

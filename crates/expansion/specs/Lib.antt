@@ -1,0 +1,12 @@
+pub mod Bernstein
+pub mod Numbering
+pub mod Polar
+pub mod Expansion
+pub mod Parts
+pub mod Cut
+pub mod Cells
+pub mod Combination
+pub mod Hull
+pub mod Size
+pub mod Volumes
+pub mod Rule

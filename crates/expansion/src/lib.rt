@@ -1,0 +1,1 @@
+// The Bézier expansion of the Jacobian determinant; theorems only, see specs/.

@@ -1,0 +1,9 @@
+pub mod Ring
+pub mod Magnitude
+pub mod Order
+pub mod Lists
+pub mod Least
+pub mod Polynomial
+pub mod Bound
+pub mod Words
+pub mod Held

@@ -1,0 +1,1 @@
+// Theorems about whole numbers and lists; see specs/.
