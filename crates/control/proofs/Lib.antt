@@ -1,0 +1,4 @@
+mod Results
+mod Sizes
+mod Vectors
+mod Sums

@@ -1,0 +1,33 @@
+-- The rows of a copy of the table against the volumes of the points.
+use borrow.Author.Needs.{needs}
+use mathlib.Core.Path.{_≡_, sym, subst}
+use mathlib.Core.List.{List}
+use lib.IntN.{ℤ}
+use Rattle.foundation.specs.Lists.{tabulate}
+use Rattle.foundation.specs.Polynomial.{integers}
+use Rattle.definitions.specs.Jacobian.{nodesOf}
+use Rattle.definitions.specs.Coefficients.{volumes, row, dot, coefficients}
+use Rattle.control.specs.Range.{InRange, volumeLimit}
+use Rattle.control.proofs.Sizes.{volumes-small}
+use Rattle.control.proofs.coefficients.Statement.{statement}
+use Rattle.control.proofs.coefficients.Tie as tie
+
+-- the coefficients are the rows against the volumes
+coefficients-are : (xs : List ℤ) {vs cs : List ℤ} → vs ≡ volumes integers (nodesOf xs) → cs ≡ tabulate (λ n. dot integers (row n) vs) 0 27 → cs ≡ coefficients xs
+unfolding coefficients
+coefficients-are xs {cs = cs} p q = subst (λ ws. cs ≡ tabulate (λ n. dot integers (row n) ws) 0 27) p q
+
+copy-requires : tie.Need-copy-requires
+copy-requires c κs = search needs
+
+volumes-requires : tie.Need-volumes-requires
+volumes-requires c κs = search needs
+
+rows-requires : tie.Need-rows-requires
+rows-requires c κs = let d = c .before .before in (d .before .copy .ensures, subst (InRange volumeLimit) (sym (d .volumes .ensures)) (volumes-small (d .before .before .pre)))
+
+returns : tie.Need-returns
+returns c = let d = c .before .before .before in coefficients-are (d .before .before .args .p .now) (d .volumes .ensures) (c .rows .ensures)
+
+pub coefficients-spec : {M : Type 1} → statement M
+coefficients-spec = tie.close (tie.spec copy-requires volumes-requires rows-requires returns)

@@ -1,0 +1,20 @@
+-- What the functions ask of their numbers, and vectors by their coordinates.
+use mathlib.Core.List.{List, [], _∷_}
+use Prim.Native.Nat.{ℕ, _*_, _≤_}
+use lib.ListN.{getD}
+use lib.IntN.{ℤ, pos, natAbs}
+
+-- every number of the list lies in −limit..limit
+pub record InRange (limit : ℕ) (xs : List ℤ) : Type 0 where
+  pub small : (i : ℕ) → natAbs (getD xs i (pos 0)) ≤ limit
+
+-- a node's number in its element
+abbrev pub Node : ℕ → Type 0
+Node n = (1 ≤ n) × (n ≤ 8)
+
+abbrev pub vector : ℤ → ℤ → ℤ → ℕ → ℤ
+vector x y z e = getD (x ∷ y ∷ z ∷ []) e (pos 0)
+
+-- With coordinates in −4,096..4,096 an edge is at most 8,192, the sum of two at most 16,384, and a determinant has six products.
+abbrev pub volumeLimit : ℕ
+volumeLimit = 6 * (8192 * (16384 * 16384))

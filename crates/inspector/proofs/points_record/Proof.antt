@@ -1,0 +1,33 @@
+use mathlib.Core.Path.{sym, ap, _∙_}
+use lib.ListN.{length}
+use denote.Ref.{now}
+use Rattle.expansion.specs.Expansion.{length-coefficients}
+use Rattle.inspector.specs.Points.{points-control}
+use borrow.Author.Needs.{needs}
+use Rattle.inspector.proofs.points_record.Statement.{statement}
+use Rattle.inspector.proofs.points_record.Tie as tie
+use Rattle.inspector.proofs.points_record.Reads as reads
+use Rattle.inspector.proofs.points_record.Lts as lts
+use Rattle.control.proofs.coefficients.Reads as coefficients-reads
+use Rattle.search.proofs.record.Reads as record-reads
+
+-- src/lib.rt:51:5
+coefficients-requires : tie.Need-coefficients-requires
+coefficients-requires c κs = search needs
+
+-- src/lib.rt:52:20
+slice-aggregate-record : tie.Need-slice-aggregate-record
+slice-aggregate-record c = sym (ap length (c .before .coefficients .ensures) ∙ length-coefficients (now (c .before .before .before .args .p)))
+
+-- src/lib.rt:52:5
+record-requires : tie.Need-record-requires
+record-requires c κs = let s = c .before .before .before in
+    (points-control (now (s .args .p)) (s .pre .0 .small) _ (c .before .coefficients .ensures), s .pre .1, s .pre .2)
+
+-- src/lib.rt:46:1
+returns : tie.Need-returns
+returns c = c .«record» .ensures (now (c .before .before .before .before .args .p)) (c .before .before .coefficients .ensures)
+
+pub points-record-spec : {M : Type 1} → statement M
+points-record-spec =
+    tie.close (tie.spec coefficients-requires slice-aggregate-record record-requires returns)

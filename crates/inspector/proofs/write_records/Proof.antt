@@ -1,0 +1,162 @@
+use mathlib.Core.Path.{_≡_, refl, sym, ap, _∙_, subst}
+use mathlib.Core.List.{List}
+use Prim.Native.Nat.{ℕ, _+_, _*_, _-_, _/_, _≤_, _<_, zero-le}
+use native.Mathlib.Omega.{arith}
+use lib.ListN.{getD, length, take, drop}
+use lib.IntN.{ℤ, pos, natAbs}
+use mir.Syntax.{w64}
+use mir.Val.{toZ, ofZ}
+use mir.ValLaws.{toZ-ofZ}
+use denote.Ref.{now}
+use borrow.Author.Needs.{needs}
+use Rattle.definitions.specs.Limits.{base}
+use Rattle.definitions.specs.Mesh.{elementRecord, counted, countsOf}
+use Rattle.verdict.specs.Elements.{total}
+use Rattle.mesh.specs.Report.{kind-natural}
+use Rattle.mesh.specs.Meaning.{countsHeld}
+use Rattle.inspector.specs.Reports.{recordAt, firstRecords, written, spaceAt, written-length, space-length, written-next, counts-next, space-last, counts-last-of, part-of, part-length, natural-by, counted-so-far, put-record}
+use Rattle.inspector.proofs.write_records.Statement.{statement}
+use Rattle.inspector.proofs.write_records.Tie as tie
+use Rattle.inspector.proofs.write_records.Reads as reads
+use Rattle.inspector.proofs.write_records.Lts as lts
+use Rattle.inspector.proofs.element.Reads as element-reads
+use Rattle.mesh.proofs.counted.Reads as counted-reads
+use Rattle.mesh.proofs.put.Reads as put-reads
+
+abbrev Inv-loop : tie.InvT-loop
+Inv-loop coordinates indices depth t report₀ counts₀ n e₀ report counts e = (e ≤ n) × (report ≡ spaceAt base coordinates indices depth e report₀) × (countsHeld counts ≡ countsOf (firstRecords base coordinates indices depth e))
+
+abbrev μ-loop : tie.MeasureT-loop
+μ-loop coordinates indices depth t report₀ counts₀ n e₀ report counts e = n - e
+
+-- src/lib.rt:87:5
+loop-holds : tie.Need-loop-holds Inv-loop μ-loop
+loop-holds c = (zero-le, refl, refl)
+
+-- src/lib.rt:88:18
+mul-at : tie.Need-mul-at Inv-loop μ-loop
+mul-at c = search needs
+
+-- src/lib.rt:89:55
+add-element : tie.Need-add-element Inv-loop μ-loop
+add-element c = search needs
+
+-- src/lib.rt:89:42
+mul-element : tie.Need-mul-element Inv-loop μ-loop
+mul-element c = search needs
+
+-- src/lib.rt:89:42
+sub-element : tie.Need-sub-element Inv-loop μ-loop
+sub-element c = search needs
+
+-- src/lib.rt:89:42
+part-element-start : tie.Need-part-element-start Inv-loop μ-loop
+part-element-start c = search needs
+
+-- src/lib.rt:89:42
+part-element-end : tie.Need-part-element-end Inv-loop μ-loop
+part-element-end c = search needs
+
+-- src/lib.rt:89:21
+element-requires : tie.Need-element-requires Inv-loop μ-loop
+element-requires c κs = let l = c .before .before in let s = l .before .before in
+    (part-length (now (s .args .indices)) (l .loop .e) (c .before .loop-test .taken), s .pre .1 .0, s .pre .1 .1)
+
+-- src/lib.rt:90:20
+array-copy-out-kind : tie.Need-array-copy-out-kind Inv-loop μ-loop
+array-copy-out-kind c = search needs
+
+-- what the element's record is
+words-are : (w : tie.After-element Inv-loop μ-loop) → w .element .result ≡ recordAt base (now (w .before .before .before .before .before .args .coordinates)) (now (w .before .before .before .before .before .args .indices)) (w .before .before .before .before .before .args .depth) (w .before .before .before .loop .e)
+words-are w = let s = w .before .before .before .before .before in
+    w .element .ensures ∙ ap (λ (ix : List ℕ). elementRecord base (now (s .args .coordinates)) ix (s .args .depth)) (part-of (now (s .args .indices)) (w .before .before .before .loop .e))
+
+kind-is : (c : tie.After-kind Inv-loop μ-loop) → toZ w64 (ofZ w64 (getD (c .before .element .result) 0 (pos 0))) ≡ getD (recordAt base (now (c .before .before .before .before .before .before .args .coordinates)) (now (c .before .before .before .before .before .before .args .indices)) (c .before .before .before .before .before .before .args .depth) (c .before .before .before .before .loop .e)) 0 (pos 0)
+kind-is c = toZ-ofZ w64 (getD (c .before .element .result) 0 (pos 0)) (record { sfits = c .kind .given }) ∙ ap (λ (r : List ℤ). getD r 0 (pos 0)) (words-are (c .before))
+
+-- src/lib.rt:91:9
+counted-requires : tie.Need-counted-requires Inv-loop μ-loop
+counted-requires c κs =
+    let w = c .before in
+    let l = w .before .before .before in
+    let s = l .before .before in
+    let coordinates = now (s .args .coordinates) in
+    let indices = now (s .args .indices) in
+    let e = l .loop .e in
+    let counts = ap total (l .loop .inv .2) ∙ counted-so-far base coordinates indices (s .args .depth) e in (
+      natural-by _ _ (kind-is c) (kind-natural base coordinates (take 8 (drop (8 * e) indices)) (s .args .depth)),
+      omega (arith, counts, s .pre .0 .1, w .before .before .loop-test .taken),
+    )
+
+-- src/lib.rt:92:9
+put-requires : tie.Need-put-requires Inv-loop μ-loop
+put-requires c κs =
+    let l = c .before .before .before .before .before .before in
+    let s = l .before .before in
+    let e = l .loop .e in
+    let n = c .before .before .before .before .before .loop-test .taken in
+    let h : 8 * e ≤ length (now (s .args .report)) = omega (arith, s .pre .0 .2) in
+    omega (arith, ap length (l .loop .inv .1) ∙ space-length base (now (s .args .coordinates)) (now (s .args .indices)) (s .args .depth) e (now (s .args .report)) h, s .pre .0 .2)
+
+-- src/lib.rt:87:9
+add-e : tie.Need-add-e Inv-loop μ-loop
+add-e c = search needs
+
+-- src/lib.rt:87:5
+loop-less : tie.Need-loop-less Inv-loop μ-loop
+loop-less c = search needs
+
+-- src/lib.rt:87:5
+loop-again : tie.Need-loop-again Inv-loop μ-loop
+loop-again c =
+    let w = c .before .before .before .before .before in
+    let l = w .before .before .before in
+    let s = l .before .before in
+    let coordinates = now (s .args .coordinates) in
+    let indices = now (s .args .indices) in
+    let e = l .loop .e in (
+      omega arith,
+      c .before .put .ensures ∙ put-record base coordinates indices (s .args .depth) e (now (s .args .report)) (l .loop .report) (w .element .result) (l .loop .inv .1) (words-are w),
+      c .before .before .before .counted .ensures ∙ (λ i. counted (natAbs (kind-is (c .before .before .before .before) i)) (l .loop .inv .2 i)) ∙ sym (counts-next base coordinates indices (s .args .depth) e),
+    )
+
+-- src/lib.rt:74:1
+same-length : tie.Need-same-length Inv-loop μ-loop
+same-length c =
+    let l = c .before in
+    let s = l .before .before in
+    let h : 8 * l .loop .e ≤ length (now (s .args .report)) = omega (arith, s .pre .0 .2) in
+    ap length (l .loop .inv .1) ∙ space-length base (now (s .args .coordinates)) (now (s .args .indices)) (s .args .depth) (l .loop .e) (now (s .args .report)) h
+
+-- src/lib.rt:74:1
+returns : tie.Need-returns Inv-loop μ-loop
+returns c =
+    let l = c .before in
+    let s = l .before .before in
+    let coordinates = now (s .args .coordinates) in
+    let indices = now (s .args .indices) in
+    let last : l .loop .e ≡ length indices / 8 = omega arith in
+    (l .loop .inv .2 ∙ counts-last-of base coordinates indices (s .args .depth) (l .loop .e) last, l .loop .inv .1 ∙ space-last base coordinates indices (s .args .depth) (l .loop .e) (now (s .args .report)) last (s .pre .0 .2))
+
+pub write-records-spec : {M : Type 1} → statement M
+write-records-spec =
+    tie.close
+    (tie.spec
+    Inv-loop
+    μ-loop
+    loop-holds
+    mul-at
+    add-element
+    mul-element
+    sub-element
+    part-element-start
+    part-element-end
+    element-requires
+    array-copy-out-kind
+    counted-requires
+    put-requires
+    add-e
+    loop-less
+    loop-again
+    same-length
+    returns)

@@ -1,0 +1,84 @@
+-- The answers of the services case by case, as the code's branches reach them.
+use mathlib.Core.Path.{_≡_, refl, sym, _∙_, ap, ap₂}
+use mathlib.Core.Bool.{Bool, true, false, _&&_}
+use mathlib.Core.List.{List}
+use mathlib.Core.Option.{Option, none, some}
+use Prim.Native.Nat.{ℕ, zero, suc, _+_, _<_, _≤_}
+use native.Mathlib.Omega.{arith}
+use borrow.Author.Tests.{lt-ltb, le-ltb}
+use lib.Dec.{ltb, eqb, eqb·suc-zero}
+use lib.ListN.{length}
+use lib.IntN.{ℤ}
+use Rattle.definitions.specs.Limits.{Limits}
+use Rattle.definitions.specs.Bounds.{low, high}
+use Rattle.definitions.specs.Mesh.{Refusal, refusal, records, report, Counts, countsOf, Inspection, accepted, refused, inspection, reportAfter, outOfRange, Bounds, bounds, tooDeep, outOfLimits, boundsOf, Stamp, sound, faulty, stampOf}
+
+-- ---- an inspection, by what refuses the mesh
+module _ (L : Limits) (coordinates : List ℤ) (indices : List ℕ) (space : List ℤ) (D : ℕ) where
+  abbrev pub refusalHere : Option Refusal
+  refusalHere = refusal L (length coordinates) (length indices) (length space) D
+
+  abbrev answerBy : Option Refusal → Inspection
+  answerBy o = elim o [ some r ↦ refused r | none ↦ accepted (countsOf (records L coordinates indices D)) ]
+
+  abbrev spaceBy : Option Refusal → List ℤ
+  spaceBy o = elim o [ some r ↦ space | none ↦ report L coordinates indices D ]
+
+  answer-is : (o : Option Refusal) → refusalHere ≡ o → inspection L coordinates indices (length space) D ≡ answerBy o
+  unfolding inspection
+  answer-is o e = ap answerBy e
+
+  space-is : (o : Option Refusal) → refusalHere ≡ o → reportAfter L coordinates indices space D ≡ spaceBy o
+  unfolding reportAfter
+  space-is o e = ap spaceBy e
+
+  pub refused-answer : (r : Refusal) → refusalHere ≡ some r → inspection L coordinates indices (length space) D ≡ refused r
+  refused-answer r e = answer-is (some r) e
+
+  pub refused-space : (r : Refusal) → refusalHere ≡ some r → reportAfter L coordinates indices space D ≡ space
+  refused-space r e = space-is (some r) e
+
+  pub accepted-answer : refusalHere ≡ none → inspection L coordinates indices (length space) D ≡ accepted (countsOf (records L coordinates indices D))
+  accepted-answer e = answer-is none e
+
+  pub accepted-space : refusalHere ≡ none → reportAfter L coordinates indices space D ≡ report L coordinates indices D
+  accepted-space e = space-is none e
+
+-- ---- the bounds
+module _ (L : Limits) (xs : List ℤ) (D : ℕ) where
+  abbrev boundsBy : Bool → Option ℕ → Bounds
+  boundsBy b o = elim b [ true ↦ tooDeep | false ↦ elim o [ some k ↦ outOfLimits | none ↦ bounds (low xs D) (high xs D) ] ]
+
+  bounds-is : (b : Bool) (o : Option ℕ) → ltb (L .depth) D ≡ b → outOfRange L xs ≡ o → boundsOf L xs D ≡ boundsBy b o
+  unfolding boundsOf
+  bounds-is b o e h = ap₂ boundsBy e h
+
+  pub bounds-deep : L .depth < D → boundsOf L xs D ≡ tooDeep
+  bounds-deep h = bounds-is true (outOfRange L xs) (lt-ltb (L .depth) D h) refl
+
+  pub bounds-outside : (k : ℕ) → D ≤ L .depth → outOfRange L xs ≡ some k → boundsOf L xs D ≡ outOfLimits
+  bounds-outside k h e = bounds-is false (some k) (le-ltb (L .depth) D h) e
+
+  pub bounds-inside : D ≤ L .depth → outOfRange L xs ≡ none → boundsOf L xs D ≡ bounds (low xs D) (high xs D)
+  bounds-inside h e = bounds-is false none (le-ltb (L .depth) D h) e
+
+-- ---- the stamp
+pub none-of-both : (a b : ℕ) → (eqb a 0 && eqb b 0) ≡ eqb (a + b) 0
+none-of-both zero b = let p : b ≡ 0 + b = omega arith in ap (λ (n : ℕ). eqb n 0) p
+none-of-both (suc a) b = let p : suc (a + b) ≡ suc a + b = omega arith in ap (λ (x : Bool). x && eqb b 0) (eqb·suc-zero a) ∙ sym (eqb·suc-zero (a + b)) ∙ ap (λ (n : ℕ). eqb n 0) p
+
+module _ (n : Counts) where
+  abbrev stampBy : Bool → Stamp
+  stampBy b = elim b [ true ↦ sound | false ↦ faulty ]
+
+  pub stamp-sound : eqb (n .invalid + n .refused) 0 ≡ true → sound ≡ stampOf (accepted n)
+  unfolding stampOf
+  stamp-sound e = sym (ap stampBy e)
+
+  pub stamp-faulty : eqb (n .invalid + n .refused) 0 ≡ false → faulty ≡ stampOf (accepted n)
+  unfolding stampOf
+  stamp-faulty e = sym (ap stampBy e)
+
+pub stamp-refused : (r : Refusal) → faulty ≡ stampOf (refused r)
+unfolding stampOf
+stamp-refused r = refl

@@ -1,0 +1,4 @@
+pub mod Meaning
+pub mod Points
+pub mod Reports
+pub mod Answers

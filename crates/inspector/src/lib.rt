@@ -1,0 +1,175 @@
+// The inspector: the services that a caller may use. Nothing has to be checked first: each function takes any arguments and states its
+// whole answer, every word of lent space included, as an equation with the definitions at their limits.
+//   inspect   the records of a mesh's elements, into lent report space, with four counts; or the number that refuses the mesh
+//   bounds_of the low and the high bound of eight points at a depth; or the number that refuses them
+//   stamp_of  the stamp of an inspection's answer
+// The moves of cell addresses are in the crate `address`.
+ghost use mathlib.Core.Path.{_≡_};
+ghost use Prim.Native.Nat.{_+_, _*_, _/_, _%_, _≤_};
+ghost use lib.Dec.{eqb};
+ghost use lib.ListN.{length};
+ghost use Rattle.definitions.specs.Limits.{base};
+ghost use Rattle.definitions.specs.Record.{recordOf};
+ghost use Rattle.definitions.specs.Mesh.{elementRecord, records, report as reportOf, countsOf, inspection, reportAfter, stampOf, boundsOf};
+ghost use Rattle.subdivision.specs.Rows.{rows};
+ghost use Rattle.control.specs.Range.{InRange};
+ghost use Rattle.mesh.specs.Meaning.{countsHeld};
+ghost use Rattle.search.specs.Bounds.{extremesOf, boundsAt};
+ghost use Rattle.inspector.specs.Meaning.{inspectionHeld, stampHeld, boundsHeld};
+use mesh::Checked;
+use mesh::Counts;
+use mesh::Element;
+use mesh::First;
+use search::Extremes;
+
+// The answer of an inspection: accepted, with the counts of valid, invalid, undecided and refused records; or why the mesh is refused.
+pub enum Inspection {
+    Accepted(Counts),
+    DepthTooGreat,
+    BadCoordinates,
+    BadIndices,
+    BadSpace,
+}
+
+// The stamp of a mesh.
+pub enum Stamp {
+    Sound,
+    Faulty,
+}
+
+// The answer of the bounds service: the low and the high bound, or why the points are refused.
+pub enum Bounds {
+    Both(i64, i64),
+    TooDeep,
+    OutOfRange,
+}
+
+// The record of eight points that are all in range.
+fn points_record(p: &[i32; 24], depth: u32, t: &[usize; 81]) -> [i64; 8]
+    requires { ⌜ InRange 4096 (now p) × (now t ≡ rows) × (depth ≤ base .depth) ⌝ }
+    ensures { λ r. ⌜ r ≡ recordOf (now (p .entry)) depth ⌝ }
+{
+    let mut g = [0i64; 27];
+    control::coefficients(p, &mut g);
+    search::record(&g, depth, t)
+}
+
+// The record of the element whose eight indices are lent.
+fn element(coordinates: &[i32], ix: &[u32], depth: u32, t: &[usize; 81]) -> [i64; 8]
+    requires { ⌜ (length (now ix) ≡ 8) × (now t ≡ rows) × (depth ≤ base .depth) ⌝ }
+    ensures { λ r. ⌜ r ≡ elementRecord base (now (coordinates .entry)) (now (ix .entry)) depth ⌝ }
+{
+    let fault = mesh::fault(coordinates, ix);
+    match fault {
+        Element::Whole => {
+            let p = mesh::gather(coordinates, ix);
+            points_record(&p, depth, t)
+        }
+        Element::Missing(place, index) => mesh::fault_words(fault),
+        Element::Outside(place, axis) => mesh::fault_words(fault),
+    }
+}
+
+// The records of all elements into the report space, element by element, and how many there are of each kind.
+fn write_records(
+    coordinates: &[i32],
+    indices: &[u32],
+    depth: u32,
+    t: &[usize; 81],
+    report: &mut [i64],
+) -> Counts
+    requires { ⌜ (length (now indices) % 8 ≡ 0) × (length (now indices) / 8 ≤ base .elements) × (length (now report) ≡ 8 * (length (now indices) / 8)) ⌝ }
+    requires { ⌜ (now t ≡ rows) × (depth ≤ base .depth) ⌝ }
+    ensures { λ r. ⌜ countsHeld r ≡ countsOf (records base (now (coordinates .entry)) (now (indices .entry)) depth) ⌝ }
+    ensures { λ r. ⌜ now (report .exit) ≡ reportOf base (now (coordinates .entry)) (now (indices .entry)) depth ⌝ }
+{
+    let mut counts = Counts {
+        valid: 0,
+        invalid: 0,
+        undecided: 0,
+        refused: 0,
+    };
+    let n = indices.len() / 8;
+    for e in 0..n {
+        let at = 8 * e;
+        let words = element(coordinates, &indices[at..at + 8], depth, t);
+        let kind = words[0];
+        counts = mesh::counted(kind, counts);
+        mesh::put(report, e, words);
+    }
+    counts
+}
+
+// Inspects a mesh: three coordinates a node, eight indices an element, a depth, and report space of eight words an element.
+pub fn inspect(coordinates: &[i32], indices: &[u32], depth: u32, report: &mut [i64]) -> Inspection
+    ensures { λ r. ⌜ inspectionHeld r ≡ inspection base (now (coordinates .entry)) (now (indices .entry)) (length (now (report .entry))) depth ⌝ }
+    ensures { λ r. ⌜ now (report .exit) ≡ reportAfter base (now (coordinates .entry)) (now (indices .entry)) (now (report .entry)) depth ⌝ }
+{
+    let checked = mesh::check(coordinates.len(), indices.len(), report.len(), depth);
+    match checked {
+        Checked::Accepted => {
+            let t = subdivision::table();
+            Inspection::Accepted(write_records(coordinates, indices, depth, &t, report))
+        }
+        Checked::DepthTooGreat => Inspection::DepthTooGreat,
+        Checked::BadCoordinates => Inspection::BadCoordinates,
+        Checked::BadIndices => Inspection::BadIndices,
+        Checked::BadSpace => Inspection::BadSpace,
+    }
+}
+
+// Whether no record is invalid and none refused.
+fn is_sound(n: Counts) -> bool
+    ensures { λ r. ⌜ r ≡ eqb (n .invalid + n .refused) 0 ⌝ }
+{
+    (n.invalid == 0) & (n.refused == 0)
+}
+
+// The stamp of an inspection's answer.
+pub fn stamp_of(answer: Inspection) -> Stamp
+    ensures { λ r. ⌜ stampHeld r ≡ stampOf (inspectionHeld answer) ⌝ }
+{
+    match answer {
+        Inspection::Accepted(n) => {
+            if is_sound(n) {
+                Stamp::Sound
+            } else {
+                Stamp::Faulty
+            }
+        }
+        Inspection::DepthTooGreat => Stamp::Faulty,
+        Inspection::BadCoordinates => Stamp::Faulty,
+        Inspection::BadIndices => Stamp::Faulty,
+        Inspection::BadSpace => Stamp::Faulty,
+    }
+}
+
+// Both bounds of points that are in range.
+fn points_bounds(p: &[i32; 24], depth: u32) -> Extremes
+    requires { ⌜ InRange 4096 (now p) × (depth ≤ base .depth) ⌝ }
+    ensures { λ r. ⌜ extremesOf r ≡ boundsAt (now (p .entry)) depth ⌝ }
+{
+    let t = subdivision::table();
+    let mut g = [0i64; 27];
+    control::coefficients(p, &mut g);
+    search::bounds(&g, depth, &t)
+}
+
+// The low and the high bound of eight points, x, y, z of each, at a depth.
+pub fn bounds_of(p: [i32; 24], depth: u32) -> Bounds
+    ensures { λ r. ⌜ boundsHeld r ≡ boundsOf base p depth ⌝ }
+{
+    if 3 < depth {
+        return Bounds::TooDeep;
+    }
+    let first = mesh::out_of_range(&p);
+    match first {
+        First::At(k) => Bounds::OutOfRange,
+        First::Nothing => {
+            let r = points_bounds(&p, depth);
+            let low = r.low;
+            let high = r.high;
+            Bounds::Both(low, high)
+        }
+    }
+}

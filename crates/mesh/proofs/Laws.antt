@@ -1,0 +1,34 @@
+-- The tests that the code makes against those of the definitions, and a store that fills a list from the front. Assumes nothing.
+use mathlib.Core.Path.{_≡_, refl, sym, _∙_, subst}
+use mathlib.Core.Bool.{_&&_, and-true}
+use mathlib.Core.List.{List}
+use Prim.Native.Nat.{ℕ, zero, suc, _+_, _<_}
+use native.Mathlib.Omega.{arith}
+use native.Mathlib.Decide.{ℕ-discrete}
+use lib.Dec.{leb, leb·suc-suc}
+use lib.ListN.{getD, length, set}
+use lib.Seq.{getD-set-same, getD-set-other}
+use lib.IntN.{ℤ, pos, negsuc}
+use lib.Signed.{leZ}
+use Rattle.definitions.specs.Limits.{base}
+use Rattle.definitions.specs.Mesh.{usable, Counts, counted}
+
+pub usable-tests : (x : ℤ) → (leZ (negsuc 4095) x && leZ x (pos 4096)) ≡ usable base x
+usable-tests (pos n) = refl
+usable-tests (negsuc n) = and-true (leb n 4095) ∙ sym (leb·suc-suc n 4095)
+
+-- the first k of p are those of q; the store of the next one
+pub fill-next : (p q : List ℤ) (k : ℕ) (v : ℤ) → k < length p → ((j : ℕ) → j < k → getD p j (pos 0) ≡ getD q j (pos 0)) → v ≡ getD q k (pos 0)
+    → (j : ℕ) → j < k + 1 → getD (set p k v) j (pos 0) ≡ getD q j (pos 0)
+fill-next p q k v n below e j l = elim (ℕ-discrete k j) [
+  | yes r ↦ subst (λ (i : ℕ). getD (set p k v) i (pos 0) ≡ getD q i (pos 0)) r (getD-set-same p k v (pos 0) n ∙ e)
+  | no r ↦ getD-set-other p k j v (pos 0) (λ s. r (sym s)) ∙ below j (omega arith)
+]
+
+-- a kind that is none of the first three
+pub counted-last : (k : ℕ) (n : Counts) → (k ≡ 0 → ⊥) → (k ≡ 1 → ⊥) → (k ≡ 2 → ⊥)
+    → counted k n ≡ record { valid = n .valid; invalid = n .invalid; undecided = n .undecided; refused = suc (n .refused) }
+counted-last zero n a b c = absurd (a refl)
+counted-last (suc zero) n a b c = absurd (b refl)
+counted-last (suc (suc zero)) n a b c = absurd (c refl)
+counted-last (suc (suc (suc k))) n a b c = refl

@@ -1,0 +1,155 @@
+-- What follows of a mesh that is accepted, of an element that is not refused and of points within the limits, at any limits.
+-- Assumes nothing.
+use mathlib.Core.Path.{_≡_, refl, sym, _∙_, ap}
+use mathlib.Core.Bool.{Bool, true, false, not, and-eq-true-iff}
+use mathlib.Core.List.{List}
+use mathlib.Core.Option.{Option, none, some}
+use Prim.Native.Nat.{ℕ, suc, _+_, _*_, _/_, _%_, _<_, _≤_}
+use native.Mathlib.Numerals.{add-one}
+use native.Mathlib.Omega.{arith}
+use borrow.Author.Tests.{not-false, ltb-false, leb-true, leb-false, eqb-true}
+use lib.Dec.{leb, ltb, eqb}
+use lib.ListN.{getD, length}
+use lib.IntN.{ℤ, pos, natAbs}
+use Rattle.foundation.specs.Lists.{getD-all, getD-tabulate}
+use Rattle.foundation.specs.Words.{Within, within}
+use Rattle.definitions.specs.Limits.{Limits}
+use Rattle.definitions.specs.Record.{Fault, missing, outside}
+use Rattle.definitions.specs.Mesh.{Refusal, depthTooGreat, badCoordinates, badIndices, badSpace, wellSized, refusal, usable, pointsOf, outOfRange, faultOf}
+use Rattle.mesh.specs.Meaning.{missingIndex}
+use Rattle.mesh.specs.Search.{first-below, first-none}
+
+-- a test that refuses has not accepted
+never : {A B : Type 0} {x : A} → some x ≡ none → B
+never e = let z : _≡_ {A = ℕ} 0 1 = cc in absurd (omega arith)
+
+-- ---- which meshes are refused, by the four tests
+abbrev pub refusalBy : Bool → Bool → Bool → Bool → Option Refusal
+refusalBy deep coordinates indices space =
+    elim deep [
+      | true ↦ some depthTooGreat
+      | false ↦
+          elim coordinates [
+            | false ↦ some badCoordinates
+            | true ↦
+                elim indices [
+                  | false ↦ some badIndices
+                  | true ↦
+                      elim space [ false ↦ some badSpace | true ↦ none ]
+                ]
+          ]
+    ]
+
+refusalBy-none : (a b c d : Bool) → refusalBy a b c d ≡ none → (a ≡ false) × (b ≡ true) × (c ≡ true) × (d ≡ true)
+refusalBy-none true b c d e = never e
+refusalBy-none false false c d e = never e
+refusalBy-none false true false d e = never e
+refusalBy-none false true true false e = never e
+refusalBy-none false true true true e = (refl, refl, refl, refl)
+
+well-sized : (n k most : ℕ) → wellSized n k most ≡ true → (n % k ≡ 0) × (n / k ≤ most)
+well-sized n k most e =
+    let parts = and-eq-true-iff (eqb (n % k) 0) (leb (n / k) most) .0 e in
+    (eqb-true _ _ (parts .0), leb-true _ _ (parts .1))
+
+-- What holds of a mesh that is accepted.
+pub record Accepted (L : Limits) (coordinates indices space D : ℕ) : Type 0 where
+  pub depth : D ≤ L .depth
+  pub threes : coordinates % 3 ≡ 0
+  pub nodes : coordinates / 3 ≤ L .nodes
+  pub eights : indices % 8 ≡ 0
+  pub elements : indices / 8 ≤ L .elements
+  pub room : space ≡ L .words * (indices / 8)
+
+module _ (L : Limits) (coordinates indices space D : ℕ) where
+  pub refusal-by : refusal L coordinates indices space D
+      ≡ refusalBy (ltb (L .depth) D) (wellSized coordinates 3 (L .nodes)) (wellSized indices 8 (L .elements)) (eqb space (L .words * (indices / 8)))
+  unfolding refusal
+  refusal-by = refl
+
+  pub accepted-mesh : refusal L coordinates indices space D ≡ none → Accepted L coordinates indices space D
+  accepted-mesh e =
+      let tests = refusalBy-none _ _ _ _ (sym refusal-by ∙ e) in
+      let nodes = well-sized coordinates 3 (L .nodes) (tests .1) in
+      let elements = well-sized indices 8 (L .elements) (tests .2) in
+      record {
+        depth = ltb-false _ _ (tests .0);
+        threes = nodes .0;
+        nodes = nodes .1;
+        eights = elements .0;
+        elements = elements .1;
+        room = eqb-true _ _ (tests .3);
+      }
+
+-- ---- points within the limits
+module _ (L : Limits) (xs : List ℤ) (inside : outOfRange L xs ≡ none) where
+  pub coordinate-within : (i : ℕ) → i < 24 → natAbs (getD xs i (pos 0)) ≤ L .range
+  unfolding outOfRange
+  coordinate-within i h = leb-true _ _ (not-false _ (first-none (λ k. not (usable L (getD xs k (pos 0)))) 0 24 inside i (omega arith) h))
+
+  pub points-within : length xs ≡ 24 → Within (L .range) xs
+  points-within n = getD-all (λ x. natAbs x ≤ L .range) xs (pos 0) (λ i h. coordinate-within i (omega arith))
+
+  -- past the end too, where 0 is read
+  pub read-within : length xs ≡ 24 → (i : ℕ) → natAbs (getD xs i (pos 0)) ≤ L .range
+  read-within n = within (L .range) xs (points-within n)
+
+-- ---- an element's points
+module _ (coordinates : List ℤ) (ix : List ℕ) where
+  pub length-points : length (pointsOf coordinates ix) ≡ 24
+  unfolding pointsOf
+  length-points = refl
+
+  pub point-at : (k : ℕ) → k < 24 → getD (pointsOf coordinates ix) k (pos 0) ≡ getD coordinates (3 * getD ix (k / 3) 0 + k % 3) (pos 0)
+  unfolding pointsOf
+  point-at k h =
+      let f : ℕ → ℤ = λ k. getD coordinates (3 * getD ix (k / 3) 0 + k % 3) (pos 0) in
+      let z : 0 + k ≡ k = omega arith in
+      getD-tabulate f 0 24 k (pos 0) h ∙ ap f z
+
+-- ---- an index that names no node
+module _ (nodes : ℕ) (ix : List ℕ) where
+  pub missing-below : (k : ℕ) → missingIndex nodes ix ≡ some k → k < 8
+  unfolding missingIndex
+  missing-below k e = first-below (λ k. leb nodes (getD ix k 0)) 0 8 k e
+
+  pub missing-none : missingIndex nodes ix ≡ none → (k : ℕ) → k < 8 → getD ix k 0 < nodes
+  unfolding missingIndex
+  missing-none e k h = leb-false nodes (getD ix k 0) (first-none (λ k. leb nodes (getD ix k 0)) 0 8 e k (omega arith) h)
+
+-- ---- why an element is refused, by what the search of its indices and that of its coordinates find
+abbrev faultBy : List ℕ → Option ℕ → Option ℕ → Option Fault
+faultBy ix m o = elim m [
+  | some k ↦ some (missing (suc k) (getD ix k 0))
+  | none ↦ elim o [ some k ↦ some (outside (suc (k / 3)) (suc (k % 3))) | none ↦ none ]
+]
+
+faultBy-none : (ix : List ℕ) (m o : Option ℕ) → faultBy ix m o ≡ none → (m ≡ none) × (o ≡ none)
+faultBy-none ix none none e = (refl, refl)
+faultBy-none ix none (some k) e = never e
+faultBy-none ix (some k) o e = never e
+
+-- What holds of an element that is not refused.
+pub record Whole (L : Limits) (coordinates : List ℤ) (ix : List ℕ) : Type 0 where
+  pub indices : (k : ℕ) → k < 8 → getD ix k 0 < length coordinates / 3
+  pub points : outOfRange L (pointsOf coordinates ix) ≡ none
+
+module _ (L : Limits) (coordinates : List ℤ) (ix : List ℕ) where
+  fault-by : faultOf L coordinates ix ≡ faultBy ix (missingIndex (length coordinates / 3) ix) (outOfRange L (pointsOf coordinates ix))
+  unfolding faultOf missingIndex
+  fault-by = refl
+
+  pub fault-missing : (k : ℕ) → missingIndex (length coordinates / 3) ix ≡ some k → faultOf L coordinates ix ≡ some (missing (k + 1) (getD ix k 0))
+  fault-missing k m = rw (fault-by, m, add-one)
+
+  pub fault-outside : (k : ℕ) → missingIndex (length coordinates / 3) ix ≡ none → outOfRange L (pointsOf coordinates ix) ≡ some k
+      → faultOf L coordinates ix ≡ some (outside (k / 3 + 1) (k % 3 + 1))
+  fault-outside k m o = rw (fault-by, m, o) (simp add-one)
+
+  pub fault-none : missingIndex (length coordinates / 3) ix ≡ none → outOfRange L (pointsOf coordinates ix) ≡ none → faultOf L coordinates ix ≡ none
+  fault-none m o = rw (fault-by, m, o)
+
+  pub whole-element : faultOf L coordinates ix ≡ none → Whole L coordinates ix
+  whole-element e =
+      let found = faultBy-none ix (missingIndex (length coordinates / 3) ix) (outOfRange L (pointsOf coordinates ix)) (sym fault-by ∙ e) in
+      record { indices = missing-none (length coordinates / 3) ix (found .0); points = found .1 }

@@ -1,0 +1,4 @@
+pub mod Meaning
+pub mod Search
+pub mod Elements
+pub mod Report

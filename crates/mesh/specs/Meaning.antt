@@ -1,0 +1,44 @@
+-- What the code's answers stand for in the definitions.
+use mathlib.Core.List.{List}
+use mathlib.Core.Option.{Option, none, some}
+use Prim.Native.Nat.{ℕ}
+use lib.Dec.{leb}
+use lib.ListN.{getD}
+use lib.IntN.{ℤ, pos}
+use Rattle.definitions.specs.Record.{Fault, missing, outside, words, faultWords}
+use Rattle.definitions.specs.Mesh.{Refusal, depthTooGreat, badCoordinates, badIndices, badSpace, firstFrom, Counts}
+use Rattle.mesh.specs.declared.Checked.{Checked}
+use Rattle.mesh.specs.declared.Checked.the-variants.{Accepted, DepthTooGreat, BadCoordinates, BadIndices, BadSpace}
+use Rattle.mesh.specs.declared.First.{First}
+use Rattle.mesh.specs.declared.First.the-variants.{At, Nothing}
+use Rattle.mesh.specs.declared.Element.{Element}
+use Rattle.mesh.specs.declared.Element.the-variants.{Whole, Missing, Outside}
+use Rattle.mesh.specs.declared.Counts.{Counts as Held}
+
+abbrev pub checkOf : Checked → Option Refusal
+checkOf Accepted = none
+checkOf DepthTooGreat = some depthTooGreat
+checkOf BadCoordinates = some badCoordinates
+checkOf BadIndices = some badIndices
+checkOf BadSpace = some badSpace
+
+abbrev pub firstOf : First → Option ℕ
+firstOf (At k) = some k
+firstOf Nothing = none
+
+-- the first of the eight indices that is not below the number of nodes, as `faultOf` has it
+unfoldable pub missingIndex : ℕ → List ℕ → Option ℕ
+missingIndex nodes ix = firstFrom (λ k. leb nodes (getD ix k 0)) 0 8
+
+abbrev pub elementOf : Element → Option Fault
+elementOf Whole = none
+elementOf (Missing p i) = some (missing p i)
+elementOf (Outside p e) = some (outside p e)
+
+-- the record of a refused element, and eight zeros where nothing is at fault
+abbrev pub refusedWords : Option Fault → List ℤ
+refusedWords (some f) = faultWords f
+refusedWords none = words 0 0 0 0 0 0 (pos 0) 0
+
+abbrev pub countsHeld : Held → Counts
+countsHeld n = record { valid = n .valid; invalid = n .invalid; undecided = n .undecided; refused = n .refused }

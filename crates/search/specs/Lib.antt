@@ -1,0 +1,5 @@
+pub mod Meaning
+pub mod Lowest
+pub mod Visit
+pub mod Bounds
+pub mod Levels

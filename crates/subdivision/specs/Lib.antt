@@ -1,0 +1,4 @@
+pub mod Rows
+pub mod Children
+pub mod RowLaws
+pub mod ChildLaws
