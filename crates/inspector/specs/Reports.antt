@@ -4,9 +4,9 @@ use mathlib.Core.List.{List, [], _∷_, _++_}
 use Prim.Native.Nat.{ℕ, zero, suc, _+_, _*_, _-_, _/_, _<_, _≤_}
 use native.Mathlib.Omega.{arith}
 use lib.ListN.{getD, length, take, drop, length-append, length-drop, drop-of-length-le}
-use lib.Seq.{length-take-le}
+use lib.Seq.{length-take-le, take-at, drop-at, drop-drop}
 use lib.IntN.{ℤ, pos, natAbs}
-use Rattle.foundation.specs.Lists.{All, all-tabulate, concatMap, concatMap-append, append-nil, tabulate, length-tabulate}
+use Rattle.foundation.specs.Lists.{All, all-tabulate, concatMap, concatMap-append, append-nil, tabulate, length-tabulate, getD-tabulate}
 use Rattle.definitions.specs.Limits.{Limits}
 use Rattle.definitions.specs.Mesh.{elementRecord, records, report, Counts, counted, countsOf}
 use Rattle.verdict.specs.Elements.{element-length, concat-length, total, counts-total}
@@ -108,3 +108,22 @@ module _ (L : Limits) (coordinates : List ℤ) (indices : List ℕ) (D : ℕ) wh
   put-record e space now words h k = ap₂ (λ (n w : List ℤ). take (8 * e) n ++ w ++ drop (8 * e + 8) n) h k
       ∙ put-next (written L coordinates indices D e) space (recordAt L coordinates indices D e) e (written-length L coordinates indices D e)
       ∙ ap (λ (l : List ℤ). l ++ drop (8 * (e + 1)) space) (sym (written-next L coordinates indices D e))
+
+-- ---- element e's words in the report
+concat-part : (rs : List (List ℤ)) (e : ℕ) → All (λ r. length r ≡ 8) rs → e < length rs → take 8 (drop (8 * e) (concatMap (λ r. r) rs)) ≡ getD rs e []
+concat-part [] e h l = absurd (omega arith)
+concat-part (r ∷ rs) zero h l = take-at r (concatMap (λ x. x) rs) 8 (h .0)
+concat-part (r ∷ rs) (suc e) h l =
+    let p : 8 * suc e ≡ 8 + 8 * e = omega arith in
+    ap (λ (n : ℕ). take 8 (drop n (r ++ concatMap (λ x. x) rs))) p
+    ∙ ap (take 8) (sym (drop-drop (8 * e) 8 (r ++ concatMap (λ x. x) rs)) ∙ ap (drop (8 * e)) (drop-at r (concatMap (λ x. x) rs) 8 (h .0)))
+    ∙ concat-part rs e (h .1) (omega arith)
+
+pub report-part : (L : Limits) (coordinates : List ℤ) (indices : List ℕ) (D e : ℕ) → e < length indices / 8 → take 8 (drop (8 * e) (report L coordinates indices D)) ≡ elementRecord L coordinates (take 8 (drop (8 * e) indices)) D
+unfolding report records
+report-part L coordinates indices D e h =
+    let f = recordAt L coordinates indices D in
+    let n = length indices / 8 in
+    let p : 0 + e ≡ e = omega arith in
+    concat-part (tabulate f 0 n) e (all-tabulate (λ r. length r ≡ 8) f 0 n (λ k _ _. element-length L coordinates (take 8 (drop (8 * k) indices)) D)) (subst (λ (k : ℕ). e < k) (sym (length-tabulate f 0 n)) h)
+    ∙ getD-tabulate f 0 n e [] h ∙ ap f p

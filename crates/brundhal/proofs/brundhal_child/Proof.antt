@@ -1,0 +1,30 @@
+use mathlib.Core.Path.{ap, _∙_}
+use Rattle.definitions.specs.Limits.{base}
+use Rattle.definitions.specs.Address.{Address, childAddress}
+use borrow.Author.Needs.{needs}
+use Rattle.brundhal.proofs.brundhal_child.Statement.{statement}
+use Rattle.brundhal.proofs.brundhal_child.Tie as tie
+use Rattle.brundhal.proofs.brundhal_child.Reads as reads
+use Rattle.brundhal.proofs.brundhal_child.Lts as lts
+use Rattle.address.proofs.Address.child.Reads as child-reads
+use Rattle.brundhal.proofs.address.Reads as address-reads
+use Rattle.brundhal.proofs.moved.Reads as moved-reads
+
+-- src/lib.rt:190:11
+address-requires : tie.Need-address-requires
+address-requires c κs = search needs
+
+-- src/lib.rt:190:11
+child-requires : tie.Need-child-requires
+child-requires c κs = search needs
+
+-- src/lib.rt:190:5
+moved-requires : tie.Need-moved-requires
+moved-requires c κs = search needs
+
+-- src/lib.rt:186:1
+returns : tie.Need-returns
+returns c = c .moved .ensures ∙ c .before .child .ensures ∙ ap (λ (q : Address). childAddress (base .depth) q (c .before .before .before .args .n)) (c .before .before .address .ensures)
+
+pub brundhal-child-spec : {M : Type 1} → statement M
+brundhal-child-spec = tie.close (tie.spec address-requires child-requires moved-requires returns)

@@ -1,0 +1,30 @@
+use mathlib.Core.Path.{ap, _∙_}
+use Rattle.definitions.specs.Limits.{base}
+use Rattle.definitions.specs.Address.{Address, cornerAddress}
+use borrow.Author.Needs.{needs}
+use Rattle.brundhal.proofs.brundhal_corner.Statement.{statement}
+use Rattle.brundhal.proofs.brundhal_corner.Tie as tie
+use Rattle.brundhal.proofs.brundhal_corner.Reads as reads
+use Rattle.brundhal.proofs.brundhal_corner.Lts as lts
+use Rattle.address.proofs.Address.corner.Reads as corner-reads
+use Rattle.brundhal.proofs.address.Reads as address-reads
+use Rattle.brundhal.proofs.moved.Reads as moved-reads
+
+-- src/lib.rt:197:11
+address-requires : tie.Need-address-requires
+address-requires c κs = search needs
+
+-- src/lib.rt:197:11
+corner-requires : tie.Need-corner-requires
+corner-requires c κs = search needs
+
+-- src/lib.rt:197:5
+moved-requires : tie.Need-moved-requires
+moved-requires c κs = search needs
+
+-- src/lib.rt:193:1
+returns : tie.Need-returns
+returns c = c .moved .ensures ∙ c .before .corner .ensures ∙ ap (λ (q : Address). cornerAddress (base .depth) q (c .before .before .before .args .n)) (c .before .before .address .ensures)
+
+pub brundhal-corner-spec : {M : Type 1} → statement M
+brundhal-corner-spec = tie.close (tie.spec address-requires corner-requires moved-requires returns)

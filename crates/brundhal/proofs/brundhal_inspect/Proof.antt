@@ -1,0 +1,28 @@
+use mathlib.Core.Path.{ap, _∙_}
+use Rattle.brundhal.specs.Meaning.{numbersOf}
+use borrow.Author.Needs.{needs}
+use Rattle.brundhal.proofs.brundhal_inspect.Statement.{statement}
+use Rattle.brundhal.proofs.brundhal_inspect.Tie as tie
+use Rattle.brundhal.proofs.brundhal_inspect.Reads as reads
+use Rattle.brundhal.proofs.brundhal_inspect.Lts as lts
+use Rattle.brundhal.proofs.numbers.Reads as numbers-reads
+use Rattle.inspector.proofs.inspect.Reads as inspect-reads
+
+-- src/lib.rt:94:13
+inspect-requires : tie.Need-inspect-requires
+inspect-requires c κs = search needs
+
+-- src/lib.rt:94:5
+numbers-requires : tie.Need-numbers-requires
+numbers-requires c κs = search needs
+
+-- src/lib.rt:89:1
+same-length : tie.Need-same-length
+same-length c = search needs
+
+-- src/lib.rt:89:1
+returns : tie.Need-returns
+returns c = (c .numbers .ensures ∙ ap numbersOf (c .before .before .inspect .ensures .0), c .before .before .inspect .ensures .1)
+
+pub brundhal-inspect-spec : {M : Type 1} → statement M
+brundhal-inspect-spec = tie.close (tie.spec inspect-requires numbers-requires same-length returns)

@@ -1,0 +1,209 @@
+// The services for callers in C and Rust: the same answers as plain numbers. include/brundhal.h declares them.
+// Nothing has to be checked first. A slice passes as a pointer and a length in elements; a null or an overlapping pointer is the
+// caller's fault, and so is a length that is not that of the memory behind it.
+ghost use mathlib.Core.Path.{_≡_};
+ghost use lib.ListN.{length};
+ghost use Rattle.definitions.specs.Limits.{base};
+ghost use Rattle.definitions.specs.Address.{childAddress, cornerAddress, parentAddress};
+ghost use Rattle.definitions.specs.Mesh.{inspection, reportAfter, boundsOf};
+ghost use Rattle.address.specs.Meaning.{addressOf, moveOf};
+ghost use Rattle.inspector.specs.Meaning.{inspectionHeld, stampHeld, boundsHeld};
+ghost use Rattle.brundhal.specs.Meaning.{numbersOf, numbersHeld, pairOf, pairHeld, stampNumber, stampFor, addressHeld, moveHeld};
+use address::Address;
+use address::Moved;
+use inspector::Bounds;
+use inspector::Inspection;
+use inspector::Stamp;
+use mesh::Counts;
+
+// The number that answers an inspection, 0 or 1 to 4, and the four counts.
+#[repr(C)]
+pub struct BrundhalInspection {
+    pub number: u32,
+    pub valid: u32,
+    pub invalid: u32,
+    pub undecided: u32,
+    pub refused: u32,
+}
+
+// The number that answers the bounds service, 0, 1 or 6, and both bounds.
+#[repr(C)]
+pub struct BrundhalBounds {
+    pub number: u32,
+    pub low: i64,
+    pub high: i64,
+}
+
+// A level and three grid numbers.
+#[repr(C)]
+pub struct BrundhalAddress {
+    pub level: u32,
+    pub a: u32,
+    pub b: u32,
+    pub c: u32,
+}
+
+// Whether a move was made, 1 or 0, and the address that it led to, or the same one.
+#[repr(C)]
+pub struct BrundhalMove {
+    pub made: u32,
+    pub level: u32,
+    pub a: u32,
+    pub b: u32,
+    pub c: u32,
+}
+
+// A refused mesh: its number, and counts 0.
+fn refused(number: u32) -> BrundhalInspection
+    ensures { λ r. ⌜ r ≡ record { number = number; valid = 0; invalid = 0; undecided = 0; refused = 0 } ⌝ }
+{
+    BrundhalInspection {
+        number: number,
+        valid: 0,
+        invalid: 0,
+        undecided: 0,
+        refused: 0,
+    }
+}
+
+fn numbers(answer: Inspection) -> BrundhalInspection
+    ensures { λ r. ⌜ numbersHeld r ≡ numbersOf (inspectionHeld answer) ⌝ }
+{
+    match answer {
+        Inspection::Accepted(n) => BrundhalInspection {
+            number: 0,
+            valid: n.valid,
+            invalid: n.invalid,
+            undecided: n.undecided,
+            refused: n.refused,
+        },
+        Inspection::DepthTooGreat => refused(1),
+        Inspection::BadCoordinates => refused(2),
+        Inspection::BadIndices => refused(3),
+        Inspection::BadSpace => refused(4),
+    }
+}
+
+// Inspects a mesh: `inspector::inspect`.
+#[no_mangle]
+pub extern "C" fn brundhal_inspect(
+    coordinates: &[i32],
+    indices: &[u32],
+    depth: u32,
+    report: &mut [i64],
+) -> BrundhalInspection
+    ensures { λ r. ⌜ numbersHeld r ≡ numbersOf (inspection base (now (coordinates .entry)) (now (indices .entry)) (length (now (report .entry))) depth) ⌝ }
+    ensures { λ r. ⌜ now (report .exit) ≡ reportAfter base (now (coordinates .entry)) (now (indices .entry)) (now (report .entry)) depth ⌝ }
+{
+    numbers(inspector::inspect(coordinates, indices, depth, report))
+}
+
+fn pair(answer: Bounds) -> BrundhalBounds
+    ensures { λ r. ⌜ pairHeld r ≡ pairOf (boundsHeld answer) ⌝ }
+{
+    match answer {
+        Bounds::Both(low, high) => BrundhalBounds {
+            number: 0,
+            low: low,
+            high: high,
+        },
+        Bounds::TooDeep => BrundhalBounds {
+            number: 1,
+            low: 0,
+            high: 0,
+        },
+        Bounds::OutOfRange => BrundhalBounds {
+            number: 6,
+            low: 0,
+            high: 0,
+        },
+    }
+}
+
+// Both bounds of eight points: `inspector::bounds_of`.
+#[no_mangle]
+pub extern "C" fn brundhal_bounds(points: &[i32; 24], depth: u32) -> BrundhalBounds
+    ensures { λ r. ⌜ pairHeld r ≡ pairOf (boundsOf base (now (points .entry)) depth) ⌝ }
+{
+    let p = *points;
+    pair(inspector::bounds_of(p, depth))
+}
+
+fn stamp_number(stamp: Stamp) -> u32
+    ensures { λ r. ⌜ r ≡ stampNumber (stampHeld stamp) ⌝ }
+{
+    match stamp {
+        Stamp::Sound => 0,
+        Stamp::Faulty => 1,
+    }
+}
+
+// The stamp of an inspection's answer, 0 sound or 1 faulty: `inspector::stamp_of`. An answer with another number than 0 is faulty.
+#[no_mangle]
+pub extern "C" fn brundhal_stamp(answer: BrundhalInspection) -> u32
+    ensures { λ r. ⌜ r ≡ stampNumber (stampFor (numbersHeld answer)) ⌝ }
+{
+    if answer.number != 0 {
+        return 1;
+    }
+    stamp_number(inspector::stamp_of(Inspection::Accepted(Counts {
+        valid: answer.valid,
+        invalid: answer.invalid,
+        undecided: answer.undecided,
+        refused: answer.refused,
+    })))
+}
+
+fn address(q: BrundhalAddress) -> Address
+    ensures { λ r. ⌜ addressOf r ≡ addressHeld q ⌝ }
+{
+    Address {
+        level: q.level,
+        a: q.a,
+        b: q.b,
+        c: q.c,
+    }
+}
+
+fn moved(answer: Moved) -> BrundhalMove
+    ensures { λ r. ⌜ moveHeld r ≡ moveOf answer ⌝ }
+{
+    match answer {
+        Moved::To(q) => BrundhalMove {
+            made: 1,
+            level: q.level,
+            a: q.a,
+            b: q.b,
+            c: q.c,
+        },
+        Moved::Not(q) => BrundhalMove {
+            made: 0,
+            level: q.level,
+            a: q.a,
+            b: q.b,
+            c: q.c,
+        },
+    }
+}
+
+// The moves of an address: `address::Address`.
+#[no_mangle]
+pub extern "C" fn brundhal_child(q: BrundhalAddress, n: u32) -> BrundhalMove
+    ensures { λ r. ⌜ moveHeld r ≡ childAddress (base .depth) (addressHeld q) n ⌝ }
+{
+    moved(address(q).child(n))
+}
+
+#[no_mangle]
+pub extern "C" fn brundhal_corner(q: BrundhalAddress, n: u32) -> BrundhalMove
+    ensures { λ r. ⌜ moveHeld r ≡ cornerAddress (base .depth) (addressHeld q) n ⌝ }
+{
+    moved(address(q).corner(n))
+}
+
+#[no_mangle]
+pub extern "C" fn brundhal_parent(q: BrundhalAddress) -> BrundhalMove
+    ensures { λ r. ⌜ moveHeld r ≡ parentAddress (base .depth) (addressHeld q) ⌝ }
+{
+    moved(address(q).parent())
+}

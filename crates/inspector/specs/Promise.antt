@@ -1,0 +1,80 @@
+-- Demand 3 of what the services write and answer: for any meshes in which the same eight points stand, whatever else they hold.
+use mathlib.Core.Path.{_≡_, sym, _∙_, ap, subst}
+use mathlib.Core.List.{List, [], _∷_, _++_}
+use mathlib.Core.Logic.{_⊎_, inl, inr}
+use mathlib.Core.Option.{none}
+use Prim.Native.Nat.{ℕ, zero, suc, _+_, _*_, _-_, _/_, _<_, _≤_, _^_}
+use native.Mathlib.Omega.{arith}
+use lib.ListN.{length, take, drop}
+use lib.IntN.{ℤ, pos, _*ℤ_}
+use lib.Signed.{_≤ℤ_, _<ℤ_}
+use Rattle.definitions.specs.Limits.{Limits}
+use Rattle.definitions.specs.Jacobian.{jacobian}
+use Rattle.definitions.specs.Bounds.{low, high}
+use Rattle.definitions.specs.Record.{recordOf}
+use Rattle.definitions.specs.Mesh.{refusal, pointsOf, outOfRange, faultOf, elementRecord, reportAfter, bounds, boundsOf}
+use Rattle.verdict.specs.CloserLook.{first, CloserLook, closer-look}
+use Rattle.verdict.specs.Elements.{element-points}
+use Rattle.mesh.specs.Elements.{accepted-mesh, whole-element}
+use Rattle.inspector.specs.Reports.{report-part}
+use Rattle.inspector.specs.Answers.{refusalHere, accepted-space, bounds-inside}
+
+-- A mesh as a caller hands it in, with its report space.
+pub record Mesh : Type 0 where
+  pub coordinates : List ℤ
+  pub indices : List ℕ
+  pub space : List ℤ
+  pub depth : ℕ
+
+-- the eight indices of element e, and its eight words in the report space after an inspection
+abbrev pub indicesOf : Mesh → ℕ → List ℕ
+indicesOf m e = take 8 (drop (8 * e) (m .indices))
+
+abbrev pub wordsOf : Limits → Mesh → ℕ → List ℤ
+wordsOf L m e = take 8 (drop (8 * e) (reportAfter L (m .coordinates) (m .indices) (m .space) (m .depth)))
+
+-- Element e of an accepted mesh has the points xs and is not refused.
+pub record Stands (L : Limits) (m : Mesh) (e : ℕ) (xs : List ℤ) : Type 0 where
+  pub is-accepted : refusalHere L (m .coordinates) (m .indices) (m .space) (m .depth) ≡ none
+  pub is-element : e < length (m .indices) / 8
+  pub not-refused : faultOf L (m .coordinates) (indicesOf m e) ≡ none
+  pub points : pointsOf (m .coordinates) (indicesOf m e) ≡ xs
+
+-- "inspection of an accepted mesh at that depth writes it for every element with these points that isn't refused, whatever else the mesh holds"
+pub words-are : (L : Limits) (m : Mesh) (e : ℕ) (xs : List ℤ) → Stands L m e xs → wordsOf L m e ≡ recordOf xs (m .depth)
+words-are L m e xs h = ap (λ (r : List ℤ). take 8 (drop (8 * e) r)) (accepted-space L (m .coordinates) (m .indices) (m .space) (m .depth) (h .is-accepted))
+    ∙ report-part L (m .coordinates) (m .indices) (m .depth) e (h .is-element)
+    ∙ element-points L (m .coordinates) (indicesOf m e) (m .depth) (h .not-refused) ∙ ap (λ (ys : List ℤ). recordOf ys (m .depth)) (h .points)
+
+-- Two looks at the same points, the first no deeper: in meshes m and m′, and by the bounds service.
+pub record Kept (L : Limits) (xs : List ℤ) (m : Mesh) (e : ℕ) (m′ : Mesh) (e′ : ℕ) : Type 0 where
+  pub same : (first (wordsOf L m e) ≡ pos 0) ⊎ (first (wordsOf L m e) ≡ pos 1) → wordsOf L m′ e′ ≡ wordsOf L m e
+  pub positive : first (wordsOf L m e) ≡ pos 0 → (M a b c : ℕ) → a ≤ 2 ^ M → b ≤ 2 ^ M → c ≤ 2 ^ M → pos 0 <ℤ jacobian xs M a b c
+  pub bounds-here : boundsOf L xs (m .depth) ≡ bounds (low xs (m .depth)) (high xs (m .depth))
+  pub bounds-there : boundsOf L xs (m′ .depth) ≡ bounds (low xs (m′ .depth)) (high xs (m′ .depth))
+  pub low-bound : (pos (64 ^ (m′ .depth - m .depth)) *ℤ low xs (m .depth)) ≤ℤ low xs (m′ .depth)
+  pub high-bound : high xs (m′ .depth) ≤ℤ (pos (64 ^ (m′ .depth - m .depth)) *ℤ high xs (m .depth))
+
+pub kept : (L : Limits) (xs : List ℤ) (m : Mesh) (e : ℕ) (m′ : Mesh) (e′ : ℕ) → Stands L m e xs → Stands L m′ e′ xs → m .depth ≤ m′ .depth → Kept L xs m e m′ e′
+kept L xs m e m′ e′ h h′ l =
+    let look = closer-look xs (m .depth) (m′ .depth) l in
+    let w = words-are L m e xs h in
+    let w′ = words-are L m′ e′ xs h′ in
+    record {
+      same = λ s. w′ ∙ look .same (settled s w) ∙ sym w;
+      positive = λ s. look .positive (inl (ap first (sym w) ∙ s));
+      bounds-here = bounds-inside L xs (m .depth) (deep m e h) (inside m e h);
+      bounds-there = bounds-inside L xs (m′ .depth) (deep m′ e′ h′) (inside m′ e′ h′);
+      low-bound = look .low-bound;
+      high-bound = look .high-bound;
+    }
+  where
+    settled : (first (wordsOf L m e) ≡ pos 0) ⊎ (first (wordsOf L m e) ≡ pos 1) → wordsOf L m e ≡ recordOf xs (m .depth) → (first (recordOf xs (m .depth)) ≡ pos 0) ⊎ (first (recordOf xs (m .depth)) ≡ pos 1)
+    settled (inl s) w = inl (ap first (sym w) ∙ s)
+    settled (inr s) w = inr (ap first (sym w) ∙ s)
+
+    deep : (n : Mesh) (k : ℕ) → Stands L n k xs → n .depth ≤ L .depth
+    deep n k s = accepted-mesh L (length (n .coordinates)) (length (n .indices)) (length (n .space)) (n .depth) (s .is-accepted) .depth
+
+    inside : (n : Mesh) (k : ℕ) → Stands L n k xs → outOfRange L xs ≡ none
+    inside n k s = ap (outOfRange L) (sym (s .points)) ∙ whole-element L (n .coordinates) (indicesOf n k) (s .not-refused) .points
