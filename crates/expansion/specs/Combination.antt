@@ -4,7 +4,6 @@ use mathlib.Core.Path.{_≡_, subst}
 use mathlib.Core.List.{List}
 use Prim.Native.Nat.{ℕ, zero, suc, _+_, _*_}
 use native.Mathlib.Omega.{arith}
-use lib.ListN.{length}
 use lib.IntN.{ℤ, pos, _+ℤ_, _*ℤ_}
 use Rattle.foundation.specs.Polynomial.{integers}
 use Rattle.foundation.specs.Lists.{All}
@@ -43,11 +42,16 @@ module _ (P : ℕ → ℤ → Type 0) (C : Combines P) where
     cut-keeps f p (suc zero) h i j k = row-keeps (λ t. f i t k) (λ t. p i t k) h j
     cut-keeps f p (suc (suc d)) h i j k = row-keeps (λ t. f i j t) (λ t. p i j t) h k
 
-    pub halve-keeps : (d h : ℕ) (c : List ℤ) → All (P n) c → length c ≡ 27 → All (P (4 * n)) (halve d h c)
+    -- a half of numbers of which P is claimed at every place
+    pub halve-keeps : (d h : ℕ) (c : List ℤ) → ((i j k : ℕ) → P n (at c i j k)) → All (P (4 * n)) (halve d h c)
     unfolding halve
-    halve-keeps d h c p e = numbered-all (P (4 * n)) (cut integers d h (at c)) (cut-keeps (at c) (at-all (P n) c e p) d h)
+    halve-keeps d h c p = numbered-all (P (4 * n)) (cut integers d h (at c)) (cut-keeps (at c) p d h)
 
-  pub child-keeps : (s : Cell) (k : ℕ) → All (P 1) (s .control) → length (s .control) ≡ 27 → All (P 64) (child s k .control)
+    -- and a half of that
+    halve-again : (d h e g : ℕ) (c : List ℤ) → All (P n) (halve d h c) → All (P (4 * n)) (halve e g (halve d h c))
+    halve-again d h e g c p = halve-keeps e g (halve d h c) (at-all (P n) (halve d h c) (length-halve d h c) p)
+
+  pub child-keeps : (s : Cell) (k : ℕ) → ((i j l : ℕ) → P 1 (at (s .control) i j l)) → All (P 64) (child s k .control)
   unfolding child
-  child-keeps s k p e = let first = halve 0 (side 0 k) (s .control) in let second = halve 1 (side 1 k) first in
-      halve-keeps 16 2 (side 2 k) second (halve-keeps 4 1 (side 1 k) first (halve-keeps 1 0 (side 0 k) (s .control) p e) (length-halve 0 (side 0 k) (s .control))) (length-halve 1 (side 1 k) first)
+  child-keeps s k p = let first = halve 0 (side 0 k) (s .control) in
+      halve-again 16 1 (side 1 k) 2 (side 2 k) first (halve-again 4 0 (side 0 k) 1 (side 1 k) (s .control) (halve-keeps 1 0 (side 0 k) (s .control) p))

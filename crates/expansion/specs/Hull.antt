@@ -9,6 +9,7 @@ use Rattle.foundation.specs.Ring.{distrib-right, mul-assoc, one-mul}
 use Rattle.foundation.specs.Order.{le-add, le-scale}
 use Rattle.foundation.specs.Lists.{All, all-map, all-getD}
 use Rattle.definitions.specs.Subdivision.{Cell, child}
+use Rattle.expansion.specs.Numbering.{at-all}
 use Rattle.expansion.specs.Cells.{child-sized}
 use Rattle.expansion.specs.Combination.{Combines, child-keeps}
 
@@ -31,6 +32,6 @@ module _ (m : ℤ) where
 
   pub child-above : (s : Cell) (k : ℕ) → Above m (s .control) → Above (pos 64 *ℤ m) (child s k .control)
   child-above s k p = (
-    child-keeps AtLeast combines s k (all-map (λ v. m ≤ℤ v) (AtLeast 1) (λ v q. subst (λ (t : ℤ). t ≤ℤ v) (sym (one-mul m)) q) (s .control) (p .0)) (p .1),
+    child-keeps AtLeast combines s k (at-all (AtLeast 1) (s .control) (p .1) (all-map (λ v. m ≤ℤ v) (AtLeast 1) (λ v q. subst (λ (t : ℤ). t ≤ℤ v) (sym (one-mul m)) q) (s .control) (p .0))),
     child-sized s k,
   )

@@ -30,6 +30,11 @@ unfolding at
 at-all P c e h i j k = let p = 9 * i + 3 * j + k in
     all-getD P c (pos 0) (getD numbers p 0) (subst (λ n. getD numbers p 0 < n) (sym e) (all-getD-default (λ n. n < 27) numbers 0 p (omega arith) numbers-below)) h
 
+-- and where 0 has it too, whatever the list's length
+pub at-default : (P : ℤ → Type 0) (c : List ℤ) → P (pos 0) → All P c → (i j k : ℕ) → P (at c i j k)
+unfolding at
+at-default P c z h i j k = all-getD-default P c (pos 0) (getD numbers (9 * i + 3 * j + k) 0) z h
+
 -- ---- the numbers at the places, in their numbering, are the list itself
 tabulate-suc : {A : Type 0} (f : ℕ → A) (i n : ℕ) → tabulate f (suc i) n ≡ tabulate (λ k. f (suc k)) i n
 tabulate-suc f i zero = refl

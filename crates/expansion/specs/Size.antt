@@ -1,21 +1,22 @@
 -- The size of the coefficients: with coordinates of at most L, those of level m are at most 384 L³ · 64^m.
 use mathlib.Core.Path.{_≡_, sym, _∙_, ap, subst}
 use mathlib.Core.List.{List}
-use Prim.Native.Nat.{ℕ, zero, suc, _*_, _≤_, _^_}
+use Prim.Native.Nat.{ℕ, zero, suc, _*_, _≤_, _^_, zero-le}
 use native.Mathlib.Nat.{le-trans, add-le-add, mul-le-mul-left, add-mul, mul-comm, mul-assoc, mul-one, one-mul, pow-zero, pow-suc}
 use native.Mathlib.Omega.{arith}
-use lib.ListN.{getD, length}
+use lib.ListN.{getD}
 use lib.IntN.{ℤ, pos, natAbs, _+ℤ_, _*ℤ_}
 use Rattle.foundation.specs.Magnitude.{magnitude-add, magnitude-mul}
 use Rattle.foundation.specs.Polynomial.{Arithmetic, Expr, var, con, add, mul, integers, expressions, solve}
 use Rattle.foundation.specs.Bound.{bound, bound-is}
-use Rattle.foundation.specs.Lists.{All, all-map, all-both, all-concat}
+use Rattle.foundation.specs.Lists.{All, all-map, all-concat}
 use Rattle.definitions.specs.Jacobian.{nodesOf}
+use Rattle.definitions.specs.Coefficients.{at}
 use Rattle.definitions.specs.Subdivision.{halve, Cell, child, children, whole, cells}
-use Rattle.expansion.specs.Numbering.{numbered-all}
+use Rattle.expansion.specs.Numbering.{numbered-all, at-default}
 use Rattle.expansion.specs.Polar.{polar, nodeVar, coordinate, coefficients-polar}
 use Rattle.expansion.specs.Combination.{Combines, halve-keeps, child-keeps}
-use Rattle.expansion.specs.Cells.{CellOf, eight, all-cells}
+use Rattle.expansion.specs.Cells.{eight}
 
 -- ---- a cut
 module _ (B : ℕ) where
@@ -28,14 +29,15 @@ module _ (B : ℕ) where
     multiples = λ {n} {x} k p. subst (λ (t : ℕ). natAbs (pos k *ℤ x) ≤ t) (sym (mul-assoc k n B)) (subst (λ (t : ℕ). t ≤ k * (n * B)) (sym (magnitude-mul (pos k) x)) (mul-le-mul-left k p));
   }
 
-  once : (c : List ℤ) → All (λ v. natAbs v ≤ B) c → All (Within 1) c
-  once c = all-map (λ v. natAbs v ≤ B) (Within 1) (λ v p. omega arith) c
+  -- past a list's end 0 is read
+  everywhere : (c : List ℤ) → All (λ v. natAbs v ≤ B) c → (i j k : ℕ) → Within 1 (at c i j k)
+  everywhere c p = at-default (Within 1) c zero-le (all-map (λ v. natAbs v ≤ B) (Within 1) (λ v q. omega arith) c p)
 
-  pub halve-size : (d h : ℕ) (c : List ℤ) → All (λ v. natAbs v ≤ B) c → length c ≡ 27 → All (λ v. natAbs v ≤ 4 * B) (halve d h c)
-  halve-size d h c p e = halve-keeps Within combines 1 d h c (once c p) e
+  pub halve-size : (d h : ℕ) (c : List ℤ) → All (λ v. natAbs v ≤ B) c → All (λ v. natAbs v ≤ 4 * B) (halve d h c)
+  halve-size d h c p = halve-keeps Within combines 1 d h c (everywhere c p)
 
-  pub child-size : (s : Cell) (k : ℕ) → All (λ v. natAbs v ≤ B) (s .control) → length (s .control) ≡ 27 → All (λ v. natAbs v ≤ 64 * B) (child s k .control)
-  child-size s k p e = child-keeps Within combines s k (once (s .control) p) e
+  pub child-size : (s : Cell) (k : ℕ) → All (λ v. natAbs v ≤ B) (s .control) → All (λ v. natAbs v ≤ 64 * B) (child s k .control)
+  child-size s k p = child-keeps Within combines s k (everywhere (s .control) p)
 
 -- ---- the whole: eight determinants, each of six products of three edges' coordinates, each at most 2 L
 -- with sums for differences: the bound of an expression as an expression in L
@@ -70,6 +72,6 @@ module _ (xs : List ℤ) (L : ℕ) (h : (i : ℕ) → natAbs (getD xs i (pos 0))
   pub coefficient-size : (m : ℕ) → All (λ s. All (λ v. natAbs v ≤ 384 * L ^ 3 * 64 ^ m) (s .control)) (cells xs m)
   coefficient-size zero = (subst (λ (n : ℕ). Bounded n (whole xs .control)) (sym (mul-one most)) whole-size, tt)
   coefficient-size (suc m) = all-concat (BoundedAt (suc m)) children (cells xs m)
-      (all-map (λ s. CellOf xs m s × BoundedAt m s) (λ s. All (BoundedAt (suc m)) (children s))
-      (λ s p. eight (BoundedAt (suc m)) s (λ k _. subst (λ (n : ℕ). Bounded n (child s k .control)) (level-bound most m) (child-size (most * 64 ^ m) s k (p .1) (p .0 .sized))))
-      (cells xs m) (all-both (CellOf xs m) (BoundedAt m) (cells xs m) (all-cells xs m) (coefficient-size m)))
+      (all-map (BoundedAt m) (λ s. All (BoundedAt (suc m)) (children s))
+      (λ s p. eight (BoundedAt (suc m)) s (λ k _. subst (λ (n : ℕ). Bounded n (child s k .control)) (level-bound most m) (child-size (most * 64 ^ m) s k p)))
+      (cells xs m) (coefficient-size m))

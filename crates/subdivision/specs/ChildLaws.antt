@@ -8,40 +8,14 @@ use native.Mathlib.Omega.{arith}
 use lib.ListN.{length, take, drop, length-append, length-drop, take-append-drop}
 use lib.Seq.{take-all, drop-at, take-append-le, drop-append-le}
 use lib.IntN.{ℤ, natAbs}
-use Rattle.foundation.specs.Lists.{All, all-append, all-left, all-right, all-map, all-every, all-image}
-use Rattle.foundation.specs.Polynomial.{integers, expressions, var}
-use Rattle.foundation.specs.Bound.{bound-is}
-use Rattle.foundation.specs.Words.{Within, within}
+use Rattle.foundation.specs.Lists.{All, all-append, all-left, all-right, all-map}
+use Rattle.foundation.specs.Words.{Within}
 use Rattle.definitions.specs.Jacobian.{side}
-use Rattle.definitions.specs.Coefficients.{numbering, numbered, place, at}
-use Rattle.definitions.specs.Subdivision.{cutRow, cut, halve, Cell, child}
+use Rattle.definitions.specs.Subdivision.{halve, Cell, child}
+use Rattle.expansion.specs.Cut.{length-halve}
+use Rattle.expansion.specs.Size.{halve-size}
 use Rattle.subdivision.specs.RowLaws.{equal-below}
 use Rattle.subdivision.specs.Children.{Control, endToEnd, part, childControl, eight, origin, across}
-
--- ---- one half
-pub halve-length : (d h : ℕ) (c : List ℤ) → length (halve d h c) ≡ 27
-unfolding halve numbered
-halve-length d h c = refl
-
--- an entry of a half is at most four times the largest of its row: its bound is computed from its formula
-row-size : (b : ℕ) (f : ℕ → ℤ) → ((t : ℕ) → natAbs (f t) ≤ b) → (h i : ℕ) → natAbs (cutRow integers h f i) ≤ 4 * b
-row-size b f k zero zero = le-trans (bound-is f (λ _. b) k (cutRow expressions 0 var 0)) (omega arith)
-row-size b f k zero (suc zero) = le-trans (bound-is f (λ _. b) k (cutRow expressions 0 var 1)) (omega arith)
-row-size b f k zero (suc (suc i)) = le-trans (bound-is f (λ _. b) k (cutRow expressions 0 var 2)) (omega arith)
-row-size b f k (suc h) zero = le-trans (bound-is f (λ _. b) k (cutRow expressions 1 var 0)) (omega arith)
-row-size b f k (suc h) (suc zero) = le-trans (bound-is f (λ _. b) k (cutRow expressions 1 var 1)) (omega arith)
-row-size b f k (suc h) (suc (suc i)) = le-trans (bound-is f (λ _. b) k (cutRow expressions 1 var 2)) (omega arith)
-
-cut-size : (b : ℕ) (f : ℕ → ℕ → ℕ → ℤ) → ((i j k : ℕ) → natAbs (f i j k) ≤ b) → (d h i j k : ℕ) → natAbs (cut integers d h f i j k) ≤ 4 * b
-cut-size b f p zero h i j k = row-size b (λ t. f t j k) (λ t. p t j k) h i
-cut-size b f p (suc zero) h i j k = row-size b (λ t. f i t k) (λ t. p i t k) h j
-cut-size b f p (suc (suc d)) h i j k = row-size b (λ t. f i j t) (λ t. p i j t) h k
-
-pub halve-size : (b d h : ℕ) (c : List ℤ) → Within b c → Within (4 * b) (halve d h c)
-unfolding halve numbered at
-halve-size b d h c w = all-image (λ x. natAbs x ≤ 4 * b) (λ s. cut integers d h (at c) (place 0 s) (place 1 s) (place 2 s)) numbering
-    (all-every (λ s. natAbs (cut integers d h (at c) (place 0 s) (place 1 s) (place 2 s)) ≤ 4 * b)
-    (λ s. cut-size b (at c) (λ i j k. within b c w _) d h (place 0 s) (place 1 s) (place 2 s)) numbering)
 
 pub within-more : (a b : ℕ) (c : List ℤ) → a ≤ b → Within a c → Within b c
 within-more a b c h w = all-map (λ x. natAbs x ≤ a) (λ x. natAbs x ≤ b) (λ x k. le-trans k h) c w
@@ -85,7 +59,7 @@ unfolding child
 child-control s k = refl
 
 pub child-length : (c : List ℤ) (k : ℕ) → length (childControl c k) ≡ 27
-child-length c k = halve-length 2 (side 2 k) (halve 1 (side 1 k) (halve 0 (side 0 k) c))
+child-length c k = length-halve 2 (side 2 k) (halve 1 (side 1 k) (halve 0 (side 0 k) c))
 
 -- each is 27 coefficients again, at most 64 times as large
 pub child-fits : (b : ℕ) (c : List ℤ) (k : ℕ) → Within b c → Control (64 * b) (childControl c k)
@@ -113,7 +87,7 @@ pub side-small : (k : ℕ) → k < 8 → side 0 k < 2
 side-small k h = omega (arith, equal-below (λ k. side 0 k % 2) (side 0) 8 tt k h)
 
 pub across-length : (d : ℕ) (xs : List ℤ) (k : ℕ) → length (across d xs k) ≡ 27
-across-length d xs k = halve-length d (side d k) (part (origin d k) xs)
+across-length d xs k = length-halve d (side d k) (part (origin d k) xs)
 
 -- what holds after a cut of all parts of xs
 pub across-next : (b d : ℕ) (xs ys : List ℤ) (n : ℕ) → ys ≡ endToEnd (across d xs) n → Within b xs → Within (4 * b) ys × (length ys ≡ 27 * n)

@@ -6,7 +6,7 @@ use borrow.Author.Needs.{needs}
 use lib.ListN.{length}
 use Rattle.definitions.specs.Subdivision.{halve}
 use Rattle.subdivision.specs.RowLaws.{Agrees, agrees-row, agrees-all}
-use Rattle.subdivision.specs.ChildLaws.{halve-length}
+use Rattle.expansion.specs.Cut.{length-halve}
 use Rattle.subdivision.proofs.halve.Statement.{statement}
 use Rattle.subdivision.proofs.halve.Tie as tie
 
@@ -38,7 +38,7 @@ same-length c = search needs
 
 returns : tie.Need-returns Inv-loop μ-loop
 returns c = let s = c .before .before in let at = c .before .loop in let half = halve (s .args .d) (s .args .h) (s .args .c .now) in
-    agrees-all (s .args .d) half (s .pre .1 .1) (at .out) (at .inv .1) (halve-length (s .args .d) (s .args .h) (s .args .c .now)) (λ x l. at .inv .2 x (omega arith))
+    agrees-all (s .args .d) half (s .pre .1 .1) (at .out) (at .inv .1) (length-halve (s .args .d) (s .args .h) (s .args .c .now)) (λ x l. at .inv .2 x (omega arith))
 
 pub halve-spec : {M : Type 1} → statement M
 halve-spec =
