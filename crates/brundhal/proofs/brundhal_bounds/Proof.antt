@@ -8,15 +8,12 @@ use Rattle.brundhal.proofs.brundhal_bounds.Lts as lts
 use Rattle.brundhal.proofs.pair.Reads as pair-reads
 use Rattle.inspector.proofs.bounds_of.Reads as bounds-of-reads
 
--- src/lib.rt:125:10
 bounds-of-requires : tie.Need-bounds-of-requires
 bounds-of-requires c κs = search needs
 
--- src/lib.rt:125:5
 pair-requires : tie.Need-pair-requires
 pair-requires c κs = search needs
 
--- src/lib.rt:120:1
 returns : tie.Need-returns
 returns c = c .pair .ensures ∙ ap pairOf (c .before .bounds-of .ensures)
 

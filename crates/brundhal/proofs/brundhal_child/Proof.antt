@@ -10,19 +10,15 @@ use Rattle.address.proofs.Address.child.Reads as child-reads
 use Rattle.brundhal.proofs.address.Reads as address-reads
 use Rattle.brundhal.proofs.moved.Reads as moved-reads
 
--- src/lib.rt:190:11
 address-requires : tie.Need-address-requires
 address-requires c κs = search needs
 
--- src/lib.rt:190:11
 child-requires : tie.Need-child-requires
 child-requires c κs = search needs
 
--- src/lib.rt:190:5
 moved-requires : tie.Need-moved-requires
 moved-requires c κs = search needs
 
--- src/lib.rt:186:1
 returns : tie.Need-returns
 returns c = c .moved .ensures ∙ c .before .child .ensures ∙ ap (λ (q : Address). childAddress (base .depth) q (c .before .before .before .args .n)) (c .before .before .address .ensures)
 

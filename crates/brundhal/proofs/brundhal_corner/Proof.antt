@@ -10,19 +10,15 @@ use Rattle.address.proofs.Address.corner.Reads as corner-reads
 use Rattle.brundhal.proofs.address.Reads as address-reads
 use Rattle.brundhal.proofs.moved.Reads as moved-reads
 
--- src/lib.rt:197:11
 address-requires : tie.Need-address-requires
 address-requires c κs = search needs
 
--- src/lib.rt:197:11
 corner-requires : tie.Need-corner-requires
 corner-requires c κs = search needs
 
--- src/lib.rt:197:5
 moved-requires : tie.Need-moved-requires
 moved-requires c κs = search needs
 
--- src/lib.rt:193:1
 returns : tie.Need-returns
 returns c = c .moved .ensures ∙ c .before .corner .ensures ∙ ap (λ (q : Address). cornerAddress (base .depth) q (c .before .before .before .args .n)) (c .before .before .address .ensures)
 

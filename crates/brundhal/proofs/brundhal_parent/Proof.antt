@@ -10,19 +10,15 @@ use Rattle.address.proofs.Address.parent.Reads as parent-reads
 use Rattle.brundhal.proofs.address.Reads as address-reads
 use Rattle.brundhal.proofs.moved.Reads as moved-reads
 
--- src/lib.rt:204:11
 address-requires : tie.Need-address-requires
 address-requires c κs = search needs
 
--- src/lib.rt:204:11
 parent-requires : tie.Need-parent-requires
 parent-requires c κs = search needs
 
--- src/lib.rt:204:5
 moved-requires : tie.Need-moved-requires
 moved-requires c κs = search needs
 
--- src/lib.rt:200:1
 returns : tie.Need-returns
 returns c = c .moved .ensures ∙ c .before .parent .ensures ∙ ap (parentAddress (base .depth)) (c .before .before .address .ensures)
 

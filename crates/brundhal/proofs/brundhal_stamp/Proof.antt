@@ -8,19 +8,15 @@ use Rattle.brundhal.proofs.brundhal_stamp.Lts as lts
 use Rattle.brundhal.proofs.stamp_number.Reads as stamp-number-reads
 use Rattle.inspector.proofs.stamp_of.Reads as stamp-of-reads
 
--- src/lib.rt:143:9
 returns : tie.Need-returns
 returns c = sym (other-number (numbersHeld (c .before .before .args .answer)) (c .if1 .taken))
 
--- src/lib.rt:145:18
 stamp-of-requires : tie.Need-stamp-of-requires
 stamp-of-requires c κs = search needs
 
--- src/lib.rt:145:5
 stamp-number-requires : tie.Need-stamp-number-requires
 stamp-number-requires c κs = search needs
 
--- src/lib.rt:138:1
 returns-2 : tie.Need-returns-2
 returns-2 c = c .stamp-number .ensures ∙ ap stampNumber (c .before .stamp-of .ensures ∙ sym (zero-number (numbersHeld (c .before .before .before .before .args .answer)) (c .before .before .if1 .left)))
 

@@ -6,19 +6,15 @@ use Rattle.brundhal.proofs.moved.Tie as tie
 use Rattle.brundhal.proofs.moved.Reads as reads
 use Rattle.brundhal.proofs.moved.Lts as lts
 
--- src/lib.rt:168:19
 enum-known-answer : tie.Need-enum-known-answer
 enum-known-answer c = search needs
 
--- src/lib.rt:175:20
 enum-known-answer-2 : tie.Need-enum-known-answer-2
 enum-known-answer-2 c = search needs
 
--- src/lib.rt:164:1
 returns : tie.Need-returns
 returns c = sym (ap moveOf (c .before .answer .given .1))
 
--- src/lib.rt:164:1
 returns-2 : tie.Need-returns-2
 returns-2 c = sym (ap moveOf (c .before .answer2 .given .1))
 

@@ -9,59 +9,45 @@ use Rattle.brundhal.proofs.numbers.Reads as reads
 use Rattle.brundhal.proofs.numbers.Lts as lts
 use Rattle.brundhal.proofs.refused.Reads as refused-reads
 
--- src/lib.rt:74:30
 enum-known-answer : tie.Need-enum-known-answer
 enum-known-answer c = search needs
 
--- src/lib.rt:81:38
 enum-told : tie.Need-enum-told
 enum-told c = search needs
 
--- src/lib.rt:81:38
 refused-requires : tie.Need-refused-requires
 refused-requires c κs = search needs
 
--- src/lib.rt:82:39
 enum-told-2 : tie.Need-enum-told-2
 enum-told-2 c = search needs
 
--- src/lib.rt:82:39
 refused-requires-2 : tie.Need-refused-requires-2
 refused-requires-2 c κs = search needs
 
--- src/lib.rt:83:35
 enum-told-3 : tie.Need-enum-told-3
 enum-told-3 c = search needs
 
--- src/lib.rt:83:35
 refused-requires-3 : tie.Need-refused-requires-3
 refused-requires-3 c κs = search needs
 
--- src/lib.rt:84:33
 enum-told-4 : tie.Need-enum-told-4
 enum-told-4 c = search needs
 
--- src/lib.rt:84:33
 refused-requires-4 : tie.Need-refused-requires-4
 refused-requires-4 c κs = search needs
 
--- src/lib.rt:70:1
 returns : tie.Need-returns
 returns c = ap (λ (x : Inspection). numbersOf (inspectionHeld x)) (sym (c .before .answer .given .1))
 
--- src/lib.rt:70:1
 returns-2 : tie.Need-returns-2
 returns-2 c = ap numbersHeld (c .refused .ensures) ∙ ap (λ (x : Inspection). numbersOf (inspectionHeld x)) (sym (c .before .enum-told .given .1))
 
--- src/lib.rt:70:1
 returns-3 : tie.Need-returns-3
 returns-3 c = ap numbersHeld (c .refused2 .ensures) ∙ ap (λ (x : Inspection). numbersOf (inspectionHeld x)) (sym (c .before .enum-told2 .given .1))
 
--- src/lib.rt:70:1
 returns-4 : tie.Need-returns-4
 returns-4 c = ap numbersHeld (c .refused3 .ensures) ∙ ap (λ (x : Inspection). numbersOf (inspectionHeld x)) (sym (c .before .enum-told3 .given .1))
 
--- src/lib.rt:70:1
 returns-5 : tie.Need-returns-5
 returns-5 c = ap numbersHeld (c .refused4 .ensures) ∙ ap (λ (x : Inspection). numbersOf (inspectionHeld x)) (sym (c .before .enum-told4 .given .1))
 

@@ -10,29 +10,23 @@ use Rattle.brundhal.proofs.pair.Tie as tie
 use Rattle.brundhal.proofs.pair.Reads as reads
 use Rattle.brundhal.proofs.pair.Lts as lts
 
--- src/lib.rt:101:22
 enum-known-answer : tie.Need-enum-known-answer
 enum-known-answer c = search needs
 
--- src/lib.rt:106:28
 enum-told : tie.Need-enum-told
 enum-told c = search needs
 
--- src/lib.rt:111:31
 enum-told-2 : tie.Need-enum-told-2
 enum-told-2 c = search needs
 
--- src/lib.rt:97:1
 returns : tie.Need-returns
 returns c =
     let values = c .before .answer .given .0 in
     (λ i. record { number = 0; low = toZ-ofZ w64 (values .0) (record { sfits = c .known-told .given .0 .1 }) i; high = toZ-ofZ w64 (values .1 .0) (record { sfits = c .known-told .given .1 .0 .1 }) i }) ∙ sym (ap (λ (b : Bounds). pairOf (boundsHeld b)) (c .before .answer .given .1))
 
--- src/lib.rt:97:1
 returns-2 : tie.Need-returns-2
 returns-2 c = sym (ap (λ (b : Bounds). pairOf (boundsHeld b)) (c .enum-told .given .1))
 
--- src/lib.rt:97:1
 returns-3 : tie.Need-returns-3
 returns-3 c = sym (ap (λ (b : Bounds). pairOf (boundsHeld b)) (c .enum-told2 .given .1))
 

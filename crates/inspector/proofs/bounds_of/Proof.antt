@@ -17,30 +17,24 @@ use Rattle.inspector.proofs.bounds_of.Lts as lts
 use Rattle.inspector.proofs.points_bounds.Reads as points-bounds-reads
 use Rattle.mesh.proofs.out_of_range.Reads as out-of-range-reads
 
--- src/lib.rt:146:9
 returns : tie.Need-returns
 returns c = sym (bounds-deep base (c .before .args .t1) (c .before .args .depth) (c .if1 .taken))
 
--- src/lib.rt:148:9
 out-of-range-requires : tie.Need-out-of-range-requires
 out-of-range-requires c κs = search needs
 
--- src/lib.rt:150:19
 enum-known-first : tie.Need-enum-known-first
 enum-known-first c = search needs
 
--- src/lib.rt:152:35
 enum-told : tie.Need-enum-told
 enum-told c = search needs
 
--- src/lib.rt:152:17
 points-bounds-requires : tie.Need-points-bounds-requires
 points-bounds-requires c κs =
     let o = c .before .before .before in
     let s = o .before .before .before in
     (record { small = read-within base (s .args .t1) (sym (o .out-of-range .ensures) ∙ ap firstOf (c .before .enum-told .given .1)) (good-length (eSInt w32) 24 (s .args .t1) _ (s .good .0)) }, omega (arith, o .before .before .if1 .left))
 
--- src/lib.rt:142:1
 returns-2 : tie.Need-returns-2
 returns-2 c =
     let f = c .before in
@@ -48,7 +42,6 @@ returns-2 c =
     let s = o .before .before .before in
     sym (bounds-outside base (s .args .t1) (s .args .depth) _ (o .before .before .if1 .left) (sym (o .out-of-range .ensures) ∙ ap firstOf (f .first .given .1)))
 
--- src/lib.rt:142:1
 returns-3 : tie.Need-returns-3
 returns-3 c =
     let r = c .before .before in

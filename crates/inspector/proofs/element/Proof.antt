@@ -20,11 +20,9 @@ use Rattle.mesh.proofs.fault.Reads as fault-reads
 use Rattle.mesh.proofs.fault_words.Reads as fault-words-reads
 use Rattle.mesh.proofs.gather.Reads as gather-reads
 
--- src/lib.rt:60:9
 fault-requires : tie.Need-fault-requires
 fault-requires c κs = search needs
 
--- src/lib.rt:63:21
 enum-told : tie.Need-enum-told
 enum-told c = search needs
 
@@ -32,11 +30,9 @@ enum-told c = search needs
 no-fault : (c : tie.After-enum-told) → faultOf base (now (c .before .before .before .before .args .coordinates)) (now (c .before .before .before .before .args .ix)) ≡ none
 no-fault c = sym (c .before .before .fault .ensures) ∙ ap elementOf (c .enum-told .given .1)
 
--- src/lib.rt:63:21
 gather-requires : tie.Need-gather-requires
 gather-requires c κs = (c .before .before .before .before .pre .0, whole-element base _ _ (no-fault c) .indices)
 
--- src/lib.rt:64:13
 points-record-requires : tie.Need-points-record-requires
 points-record-requires c κs =
     let e = c .before .before in
@@ -48,30 +44,24 @@ points-record-requires c κs =
       s .pre .2,
     )
 
--- src/lib.rt:66:26
 enum-known-fault : tie.Need-enum-known-fault
 enum-known-fault c = search needs
 
--- src/lib.rt:66:43
 fault-words-requires : tie.Need-fault-words-requires
 fault-words-requires c κs = search needs
 
--- src/lib.rt:67:26
 enum-known-fault-2 : tie.Need-enum-known-fault-2
 enum-known-fault-2 c = search needs
 
--- src/lib.rt:67:42
 fault-words-requires-2 : tie.Need-fault-words-requires-2
 fault-words-requires-2 c κs = search needs
 
--- src/lib.rt:56:1
 returns : tie.Need-returns
 returns c =
     let e = c .before .before .before in
     let s = e .before .before .before .before in
     c .points-record .ensures ∙ ap (λ (xs : List ℤ). recordOf xs (s .args .depth)) (c .before .before .gather .ensures) ∙ sym (element-points base (now (s .args .coordinates)) (now (s .args .ix)) (s .args .depth) (no-fault e))
 
--- src/lib.rt:56:1
 returns-2 : tie.Need-returns-2
 returns-2 c =
     let f = c .before .before in
@@ -79,7 +69,6 @@ returns-2 c =
     c .fault-words .ensures
     ∙ sym (element-fault base (now (s .args .coordinates)) (now (s .args .ix)) (s .args .depth) _ (sym (f .before .before .fault .ensures) ∙ ap elementOf (f .fault2 .given .1)))
 
--- src/lib.rt:56:1
 returns-3 : tie.Need-returns-3
 returns-3 c =
     let f = c .before .before in

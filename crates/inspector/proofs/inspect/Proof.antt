@@ -16,15 +16,12 @@ use Rattle.inspector.proofs.write_records.Reads as write-records-reads
 use Rattle.mesh.proofs.check.Reads as check-reads
 use Rattle.subdivision.proofs.table.Reads as table-reads
 
--- src/lib.rt:102:9
 check-requires : tie.Need-check-requires
 check-requires c κs = search needs
 
--- src/lib.rt:105:21
 enum-told : tie.Need-enum-told
 enum-told c = search needs
 
--- src/lib.rt:105:21
 table-requires : tie.Need-table-requires
 table-requires c κs = search needs
 
@@ -39,7 +36,6 @@ refused-as s r e = (
   sym (refused-space base (now (s .args .coordinates)) (now (s .args .indices)) (now (s .args .report)) (s .args .depth) r e),
 )
 
--- src/lib.rt:106:34
 write-records-requires : tie.Need-write-records-requires
 write-records-requires c κs =
     let e = c .before .before .before in
@@ -47,27 +43,21 @@ write-records-requires c κs =
     let a = accepted-mesh base (length (now (s .args .coordinates))) (length (now (s .args .indices))) (length (now (s .args .report))) (s .args .depth) (fits e) in
     ((a .eights, a .elements, a .room), (c .before .before .table .ensures, a .depth))
 
--- src/lib.rt:108:35
 enum-told-2 : tie.Need-enum-told-2
 enum-told-2 c = search needs
 
--- src/lib.rt:109:36
 enum-told-3 : tie.Need-enum-told-3
 enum-told-3 c = search needs
 
--- src/lib.rt:110:32
 enum-told-4 : tie.Need-enum-told-4
 enum-told-4 c = search needs
 
--- src/lib.rt:111:30
 enum-told-5 : tie.Need-enum-told-5
 enum-told-5 c = search needs
 
--- src/lib.rt:98:1
 same-length : tie.Need-same-length
 same-length c = search needs
 
--- src/lib.rt:98:1
 returns : tie.Need-returns
 returns c =
     let e = c .before .before .before .before .before in
@@ -76,19 +66,15 @@ returns c =
       c .before .write-records .ensures .1 ∙ sym (accepted-space base (now (s .args .coordinates)) (now (s .args .indices)) (now (s .args .report)) (s .args .depth) (fits e)),
     )
 
--- src/lib.rt:98:1
 returns-2 : tie.Need-returns-2
 returns-2 c = refused-as (c .before .before .before .before) depthTooGreat (sym (c .before .before .check .ensures) ∙ ap checkOf (c .enum-told2 .given .1))
 
--- src/lib.rt:98:1
 returns-3 : tie.Need-returns-3
 returns-3 c = refused-as (c .before .before .before .before) badCoordinates (sym (c .before .before .check .ensures) ∙ ap checkOf (c .enum-told3 .given .1))
 
--- src/lib.rt:98:1
 returns-4 : tie.Need-returns-4
 returns-4 c = refused-as (c .before .before .before .before) badIndices (sym (c .before .before .check .ensures) ∙ ap checkOf (c .enum-told4 .given .1))
 
--- src/lib.rt:98:1
 returns-5 : tie.Need-returns-5
 returns-5 c = refused-as (c .before .before .before .before) badSpace (sym (c .before .before .check .ensures) ∙ ap checkOf (c .enum-told5 .given .1))
 

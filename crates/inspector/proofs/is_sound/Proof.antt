@@ -4,7 +4,6 @@ use Rattle.inspector.proofs.is_sound.Tie as tie
 use Rattle.inspector.proofs.is_sound.Reads as reads
 use Rattle.inspector.proofs.is_sound.Lts as lts
 
--- src/lib.rt:117:1
 returns : tie.Need-returns
 returns c = none-of-both (c .before .before .args .n .invalid) (c .before .before .args .n .refused)
 

@@ -12,24 +12,19 @@ use Rattle.control.proofs.coefficients.Reads as coefficients-reads
 use Rattle.search.proofs.bounds.Reads as bounds-reads
 use Rattle.subdivision.proofs.table.Reads as table-reads
 
--- src/lib.rt:135:13
 table-requires : tie.Need-table-requires
 table-requires c κs = search needs
 
--- src/lib.rt:137:5
 coefficients-requires : tie.Need-coefficients-requires
 coefficients-requires c κs = search needs
 
--- src/lib.rt:138:20
 slice-aggregate-bounds : tie.Need-slice-aggregate-bounds
 slice-aggregate-bounds c = sym (ap length (c .before .coefficients .ensures) ∙ length-coefficients (now (c .before .before .before .before .args .p)))
 
--- src/lib.rt:138:5
 bounds-requires : tie.Need-bounds-requires
 bounds-requires c κs = let s = c .before .before .before .before .before in
     (points-control (now (s .args .p)) (s .pre .0 .small) _ (c .before .before .coefficients .ensures), c .before .before .before .before .table .ensures, s .pre .1)
 
--- src/lib.rt:131:1
 returns : tie.Need-returns
 returns c = let s = c .before .before .before .before .before .before in
     c .bounds .ensures (now (s .args .p)) (c .before .before .before .coefficients .ensures) (s .pre .0 .small)

@@ -11,20 +11,16 @@ use Rattle.inspector.proofs.points_record.Lts as lts
 use Rattle.control.proofs.coefficients.Reads as coefficients-reads
 use Rattle.search.proofs.record.Reads as record-reads
 
--- src/lib.rt:51:5
 coefficients-requires : tie.Need-coefficients-requires
 coefficients-requires c κs = search needs
 
--- src/lib.rt:52:20
 slice-aggregate-record : tie.Need-slice-aggregate-record
 slice-aggregate-record c = sym (ap length (c .before .coefficients .ensures) ∙ length-coefficients (now (c .before .before .before .args .p)))
 
--- src/lib.rt:52:5
 record-requires : tie.Need-record-requires
 record-requires c κs = let s = c .before .before .before in
     (points-control (now (s .args .p)) (s .pre .0 .small) _ (c .before .coefficients .ensures), s .pre .1, s .pre .2)
 
--- src/lib.rt:46:1
 returns : tie.Need-returns
 returns c = c .«record» .ensures (now (c .before .before .before .before .args .p)) (c .before .before .coefficients .ensures)
 

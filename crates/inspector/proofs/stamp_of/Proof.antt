@@ -10,51 +10,39 @@ use Rattle.inspector.proofs.stamp_of.Reads as reads
 use Rattle.inspector.proofs.stamp_of.Lts as lts
 use Rattle.inspector.proofs.is_sound.Reads as is-sound-reads
 
--- src/lib.rt:128:30
 enum-known-answer : tie.Need-enum-known-answer
 enum-known-answer c = search needs
 
--- src/lib.rt:129:16
 is-sound-requires : tie.Need-is-sound-requires
 is-sound-requires c κs = search needs
 
--- src/lib.rt:135:38
 enum-told : tie.Need-enum-told
 enum-told c = search needs
 
--- src/lib.rt:136:39
 enum-told-2 : tie.Need-enum-told-2
 enum-told-2 c = search needs
 
--- src/lib.rt:137:35
 enum-told-3 : tie.Need-enum-told-3
 enum-told-3 c = search needs
 
--- src/lib.rt:138:33
 enum-told-4 : tie.Need-enum-told-4
 enum-told-4 c = search needs
 
--- src/lib.rt:124:1
 returns : tie.Need-returns
 returns c = stamp-sound _ (sym (c .before .is-sound .ensures) ∙ c .if1 .taken) ∙ ap (λ (x : Inspection). stampOf (inspectionHeld x)) (sym (c .before .before .before .answer .given .1))
 
--- src/lib.rt:124:1
 returns-2 : tie.Need-returns-2
 returns-2 c = stamp-faulty _ (sym (c .before .is-sound .ensures) ∙ c .if1 .left) ∙ ap (λ (x : Inspection). stampOf (inspectionHeld x)) (sym (c .before .before .before .answer .given .1))
 
--- src/lib.rt:124:1
 returns-3 : tie.Need-returns-3
 returns-3 c = stamp-refused depthTooGreat ∙ ap (λ (x : Inspection). stampOf (inspectionHeld x)) (sym (c .enum-told .given .1))
 
--- src/lib.rt:124:1
 returns-4 : tie.Need-returns-4
 returns-4 c = stamp-refused badCoordinates ∙ ap (λ (x : Inspection). stampOf (inspectionHeld x)) (sym (c .enum-told2 .given .1))
 
--- src/lib.rt:124:1
 returns-5 : tie.Need-returns-5
 returns-5 c = stamp-refused badIndices ∙ ap (λ (x : Inspection). stampOf (inspectionHeld x)) (sym (c .enum-told3 .given .1))
 
--- src/lib.rt:124:1
 returns-6 : tie.Need-returns-6
 returns-6 c = stamp-refused badSpace ∙ ap (λ (x : Inspection). stampOf (inspectionHeld x)) (sym (c .enum-told4 .given .1))
 

@@ -29,40 +29,31 @@ Inv-loop coordinates indices depth t report₀ counts₀ n e₀ report counts e 
 abbrev μ-loop : tie.MeasureT-loop
 μ-loop coordinates indices depth t report₀ counts₀ n e₀ report counts e = n - e
 
--- src/lib.rt:87:5
 loop-holds : tie.Need-loop-holds Inv-loop μ-loop
 loop-holds c = (zero-le, refl, refl)
 
--- src/lib.rt:88:18
 mul-at : tie.Need-mul-at Inv-loop μ-loop
 mul-at c = search needs
 
--- src/lib.rt:89:55
 add-element : tie.Need-add-element Inv-loop μ-loop
 add-element c = search needs
 
--- src/lib.rt:89:42
 mul-element : tie.Need-mul-element Inv-loop μ-loop
 mul-element c = search needs
 
--- src/lib.rt:89:42
 sub-element : tie.Need-sub-element Inv-loop μ-loop
 sub-element c = search needs
 
--- src/lib.rt:89:42
 part-element-start : tie.Need-part-element-start Inv-loop μ-loop
 part-element-start c = search needs
 
--- src/lib.rt:89:42
 part-element-end : tie.Need-part-element-end Inv-loop μ-loop
 part-element-end c = search needs
 
--- src/lib.rt:89:21
 element-requires : tie.Need-element-requires Inv-loop μ-loop
 element-requires c κs = let l = c .before .before in let s = l .before .before in
     (part-length (now (s .args .indices)) (l .loop .e) (c .before .loop-test .taken), s .pre .1 .0, s .pre .1 .1)
 
--- src/lib.rt:90:20
 array-copy-out-kind : tie.Need-array-copy-out-kind Inv-loop μ-loop
 array-copy-out-kind c = search needs
 
@@ -74,7 +65,6 @@ words-are w = let s = w .before .before .before .before .before in
 kind-is : (c : tie.After-kind Inv-loop μ-loop) → toZ w64 (ofZ w64 (getD (c .before .element .result) 0 (pos 0))) ≡ getD (recordAt base (now (c .before .before .before .before .before .before .args .coordinates)) (now (c .before .before .before .before .before .before .args .indices)) (c .before .before .before .before .before .before .args .depth) (c .before .before .before .before .loop .e)) 0 (pos 0)
 kind-is c = toZ-ofZ w64 (getD (c .before .element .result) 0 (pos 0)) (record { sfits = c .kind .given }) ∙ ap (λ (r : List ℤ). getD r 0 (pos 0)) (words-are (c .before))
 
--- src/lib.rt:91:9
 counted-requires : tie.Need-counted-requires Inv-loop μ-loop
 counted-requires c κs =
     let w = c .before in
@@ -88,7 +78,6 @@ counted-requires c κs =
       omega (arith, counts, s .pre .0 .1, w .before .before .loop-test .taken),
     )
 
--- src/lib.rt:92:9
 put-requires : tie.Need-put-requires Inv-loop μ-loop
 put-requires c κs =
     let l = c .before .before .before .before .before .before in
@@ -98,15 +87,12 @@ put-requires c κs =
     let h : 8 * e ≤ length (now (s .args .report)) = omega (arith, s .pre .0 .2) in
     omega (arith, ap length (l .loop .inv .1) ∙ space-length base (now (s .args .coordinates)) (now (s .args .indices)) (s .args .depth) e (now (s .args .report)) h, s .pre .0 .2)
 
--- src/lib.rt:87:9
 add-e : tie.Need-add-e Inv-loop μ-loop
 add-e c = search needs
 
--- src/lib.rt:87:5
 loop-less : tie.Need-loop-less Inv-loop μ-loop
 loop-less c = search needs
 
--- src/lib.rt:87:5
 loop-again : tie.Need-loop-again Inv-loop μ-loop
 loop-again c =
     let w = c .before .before .before .before .before in
@@ -120,7 +106,6 @@ loop-again c =
       c .before .before .before .counted .ensures ∙ (λ i. counted (natAbs (kind-is (c .before .before .before .before) i)) (l .loop .inv .2 i)) ∙ sym (counts-next base coordinates indices (s .args .depth) e),
     )
 
--- src/lib.rt:74:1
 same-length : tie.Need-same-length Inv-loop μ-loop
 same-length c =
     let l = c .before in
@@ -128,7 +113,6 @@ same-length c =
     let h : 8 * l .loop .e ≤ length (now (s .args .report)) = omega (arith, s .pre .0 .2) in
     ap length (l .loop .inv .1) ∙ space-length base (now (s .args .coordinates)) (now (s .args .indices)) (s .args .depth) (l .loop .e) (now (s .args .report)) h
 
--- src/lib.rt:74:1
 returns : tie.Need-returns Inv-loop μ-loop
 returns c =
     let l = c .before in

@@ -12,16 +12,13 @@ use Rattle.search.proofs.bounds.Lts as lts
 use Rattle.search.proofs.survey.Reads as survey-reads
 use Rattle.search.proofs.whole.Reads as whole-reads
 
--- src/lib.rt:317:15
 whole-requires : tie.Need-whole-requires
 whole-requires c κs = search needs
 
--- src/lib.rt:317:5
 survey-requires : tie.Need-survey-requires
 survey-requires c κs = let s = c .before in
     (whole-room (c .whole .result) (now (s .args .g)) (s .args .depth) (c .whole .ensures) (s .pre .0) (s .pre .2), s .pre .1)
 
--- src/lib.rt:313:1
 returns : tie.Need-returns
 returns c xs e h = let s = c .before .before in
     c .survey .ensures ∙ ap (λ (q : Cell). extremes (s .args .depth) q (record { low = greatest; high = greatest })) (whole-cell (c .before .whole .result) (now (s .args .g)) (c .before .whole .ensures))

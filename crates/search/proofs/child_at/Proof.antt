@@ -13,23 +13,18 @@ use Rattle.search.proofs.child_at.Reads as reads
 use Rattle.search.proofs.child_at.Lts as lts
 use Rattle.address.proofs.Address.child.Reads as child-reads
 
--- src/lib.rt:67:22
 cast-child : tie.Need-cast-child
 cast-child c = search needs
 
--- src/lib.rt:67:22
 add-child : tie.Need-add-child
 add-child c = search needs
 
--- src/lib.rt:67:9
 child-requires : tie.Need-child-requires
 child-requires c κs = search needs
 
--- src/lib.rt:69:19
 enum-known-to : tie.Need-enum-known-to
 enum-known-to c = search needs
 
--- src/lib.rt:70:20
 enum-known-to-2 : tie.Need-enum-known-to-2
 enum-known-to-2 c = search needs
 

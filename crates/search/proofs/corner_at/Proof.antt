@@ -13,23 +13,18 @@ use Rattle.search.proofs.corner_at.Reads as reads
 use Rattle.search.proofs.corner_at.Lts as lts
 use Rattle.address.proofs.Address.corner.Reads as corner-reads
 
--- src/lib.rt:79:23
 cast-corner : tie.Need-cast-corner
 cast-corner c = search needs
 
--- src/lib.rt:79:23
 add-corner : tie.Need-add-corner
 add-corner c = search needs
 
--- src/lib.rt:79:9
 corner-requires : tie.Need-corner-requires
 corner-requires c κs = search needs
 
--- src/lib.rt:81:19
 enum-known-to : tie.Need-enum-known-to
 enum-known-to c = search needs
 
--- src/lib.rt:82:20
 enum-known-to-2 : tie.Need-enum-known-to-2
 enum-known-to-2 c = search needs
 

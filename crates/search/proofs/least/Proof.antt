@@ -21,31 +21,24 @@ Inv-loop g n v r₀ k₀ r k = (k ≤ n) × (toZ w64 r ≡ leastFrom (toZ w64 v)
 abbrev μ-loop : tie.MeasureT-loop
 μ-loop g n v r₀ k₀ r k = n - k
 
--- src/lib.rt:181:5
 loop-holds : tie.Need-loop-holds Inv-loop μ-loop
 loop-holds c = (zero-le, refl)
 
--- src/lib.rt:182:17
 mul-x : tie.Need-mul-x Inv-loop μ-loop
 mul-x c = search needs
 
--- src/lib.rt:182:17
 shared-slice-copy-out-x : tie.Need-shared-slice-copy-out-x Inv-loop μ-loop
 shared-slice-copy-out-x c = omega (arith, c .before .before .pre .0, c .before .before .pre .1)
 
--- src/lib.rt:183:9
 lesser-requires : tie.Need-lesser-requires Inv-loop μ-loop
 lesser-requires c κs = tt
 
--- src/lib.rt:181:9
 add-k : tie.Need-add-k Inv-loop μ-loop
 add-k c = search needs
 
--- src/lib.rt:181:5
 loop-less : tie.Need-loop-less Inv-loop μ-loop
 loop-less c = search needs
 
--- src/lib.rt:181:5
 loop-again : tie.Need-loop-again Inv-loop μ-loop
 loop-again c =
     let l = c .before .before .before in
@@ -58,7 +51,6 @@ loop-again c =
           ∙ sym (least-next _ g k h),
     )
 
--- src/lib.rt:176:1
 returns : tie.Need-returns Inv-loop μ-loop
 returns c = let s = c .before .before in let e : c .before .loop .k ≡ s .args .n = omega arith in
     c .before .loop .inv .1 ∙ (λ i. leastFrom (toZ-ofZ w64 (s .args .v) (s .fits .v) i) (take (e i) (s .args .g .now)))

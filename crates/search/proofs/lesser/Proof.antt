@@ -8,13 +8,11 @@ use Rattle.search.proofs.lesser.Tie as tie
 use Rattle.search.proofs.lesser.Reads as reads
 use Rattle.search.proofs.lesser.Lts as lts
 
--- src/lib.rt:170:9
 returns : tie.Need-returns
 returns c = let x = c .before .args .x in let y = c .before .args .y in
     let ex = toZ-ofZ w64 x (c .before .fits .x) in let ey = toZ-ofZ w64 y (c .before .fits .y) in
     ex ∙ sym (ap (λ (t : Bool). cond t x y) (sym (ap₂ leZ ex ey) ∙ c .if1 .taken))
 
--- src/lib.rt:166:1
 returns-2 : tie.Need-returns-2
 returns-2 c = let x = c .before .args .x in let y = c .before .args .y in
     let ex = toZ-ofZ w64 x (c .before .fits .x) in let ey = toZ-ofZ w64 y (c .before .fits .y) in

@@ -20,44 +20,34 @@ use Rattle.search.proofs.finding_at.Reads as finding-at-reads
 use Rattle.search.proofs.lowest.Reads as lowest-reads
 use Rattle.search.proofs.with_coefficient.Reads as with-coefficient-reads
 
--- src/lib.rt:116:9
 lowest-requires : tie.Need-lowest-requires
 lowest-requires c κs = search needs
 
--- src/lib.rt:118:17
 add-count : tie.Need-add-count
 add-count c = search needs
 
--- src/lib.rt:120:9
 returns : tie.Need-returns
 returns c = let s = c .before .before .before in
     opened-nothing (cellOf (s .args .q) (now (s .args .g))) (s .args .r .count) (foundOf (s .args .r .found)) (s .pre .2) (sym (c .before .before .lowest .ensures .0) ∙ c .if1 .taken)
 
--- src/lib.rt:122:19
 sub-value : tie.Need-sub-value
 sub-value c = search needs
 
--- src/lib.rt:122:17
 mul-value : tie.Need-mul-value
 mul-value c = search needs
 
--- src/lib.rt:122:17
 shared-slice-copy-out-value : tie.Need-shared-slice-copy-out-value
 shared-slice-copy-out-value c = search needs
 
--- src/lib.rt:124:30
 sub-corner-at : tie.Need-sub-corner-at
 sub-corner-at c = search needs
 
--- src/lib.rt:124:13
 corner-at-requires : tie.Need-corner-at-requires
 corner-at-requires c κs = search needs
 
--- src/lib.rt:125:57
 finding-at-requires : tie.Need-finding-at-requires
 finding-at-requires c κs = search needs
 
--- src/lib.rt:125:9
 returns-2 : tie.Need-returns-2
 returns-2 c =
     let v = c .before .before .before in
@@ -72,15 +62,12 @@ returns-2 c =
     ap (λ (f : Finding). record { count = s .args .r .count + 1; found = point f }) (c .finding-at .ensures ∙ corner-finding q g n j e _ h (c .before .corner-at .result) (c .before .corner-at .ensures))
     ∙ opened-corner (cellOf q g) (s .args .r .count) (foundOf (s .args .r .found)) (s .pre .2) j (sym (v .before .before .before .lowest .ensures .0) ∙ e) l
 
--- src/lib.rt:127:57
 finding-at-requires-2 : tie.Need-finding-at-requires-2
 finding-at-requires-2 c κs = search needs
 
--- src/lib.rt:127:33
 with-coefficient-requires : tie.Need-with-coefficient-requires
 with-coefficient-requires c κs = search needs
 
--- src/lib.rt:112:1
 returns-3 : tie.Need-returns-3
 returns-3 c =
     let v = c .before .before .before in

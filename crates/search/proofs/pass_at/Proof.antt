@@ -11,16 +11,13 @@ use Rattle.search.proofs.pass_at.Lts as lts
 use Rattle.search.proofs.visit.Reads as visit-reads
 use Rattle.search.proofs.whole.Reads as whole-reads
 
--- src/lib.rt:183:14
 whole-requires : tie.Need-whole-requires
 whole-requires c κs = search needs
 
--- src/lib.rt:183:5
 visit-requires : tie.Need-visit-requires
 visit-requires c κs = let s = c .before in
     (whole-room (c .whole .result) (now (s .args .g)) (s .args .level) (c .whole .ensures) (s .pre .0) (s .pre .2), s .pre .1, s .pre .3)
 
--- src/lib.rt:179:1
 returns : tie.Need-returns
 returns c = let s = c .before .before in
     (c .visit .ensures .0 ∙ ap (λ (q : Cell). visited (s .args .level) q (fresh (s .args .count))) (whole-cell (c .before .whole .result) (now (s .args .g)) (c .before .whole .ensures)), c .visit .ensures .1)

@@ -26,19 +26,15 @@ Inv-loop g depth t m₀ r₀ m r = (m ≤ depth) × (r .count ≤ most m) × ((x
 abbrev μ-loop : tie.MeasureT-loop
 μ-loop g depth t m₀ r₀ m r = depth - m
 
--- src/lib.rt:244:9
 pass-at-requires : tie.Need-pass-at-requires Inv-loop μ-loop
 pass-at-requires c κs = (c .pre .0, c .pre .1, zero-le, omega arith)
 
--- src/lib.rt:245:5
 loop-holds : tie.Need-loop-holds Inv-loop μ-loop
 loop-holds c = let g = now (c .before .args .g) in (zero-le, c .pass-at .ensures .1, λ xs e. at-first xs g e (passOf (c .pass-at .result)) (c .pass-at .ensures .0))
 
--- src/lib.rt:245:25
 blocked-requires : tie.Need-blocked-requires Inv-loop μ-loop
 blocked-requires c κs = tt
 
--- src/lib.rt:246:9
 add-m : tie.Need-add-m Inv-loop μ-loop
 add-m c = search needs
 
@@ -56,7 +52,6 @@ last c b =
     let h : l .before .before .args .depth ≤ l .loop .m = ltb-false _ _ e in
     omega (arith, l .loop .inv .0)
 
--- src/lib.rt:247:9
 pass-at-requires-2 : tie.Need-pass-at-requires-2 Inv-loop μ-loop
 pass-at-requires-2 c κs =
     let l = c .before .before in
@@ -65,11 +60,9 @@ pass-at-requires-2 c κs =
     let h : l .loop .m < 3 = omega (arith, s .pre .2) in
     (s .pre .0, s .pre .1, omega arith, count-room (l .loop .m) (l .loop .r .count) h (l .loop .inv .1))
 
--- src/lib.rt:245:5
 loop-less : tie.Need-loop-less Inv-loop μ-loop
 loop-less c = let go = going (c .before) in omega arith
 
--- src/lib.rt:245:5
 loop-again : tie.Need-loop-again Inv-loop μ-loop
 loop-again c =
     let l = c .before .before .before in
@@ -81,11 +74,9 @@ loop-again c =
       λ xs e. at-next xs (now (s .args .g)) e m (passOf (l .loop .r)) (passOf (c .pass-at2 .result)) (l .loop .inv .2 xs e) (go .1) (c .pass-at2 .ensures .0),
     )
 
--- src/lib.rt:249:5
 settle-requires : tie.Need-settle-requires Inv-loop μ-loop
 settle-requires c κs = tt
 
--- src/lib.rt:239:1
 returns : tie.Need-returns Inv-loop μ-loop
 returns c xs e =
     let l = c .before .before .before in

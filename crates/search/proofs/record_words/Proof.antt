@@ -9,35 +9,27 @@ use Rattle.search.proofs.record_words.Tie as tie
 use Rattle.search.proofs.record_words.Reads as reads
 use Rattle.search.proofs.record_words.Lts as lts
 
--- src/lib.rt:204:9
 cast-t6 : tie.Need-cast-t6
 cast-t6 c = search needs
 
--- src/lib.rt:205:9
 cast-t7 : tie.Need-cast-t7
 cast-t7 c = search needs
 
--- src/lib.rt:206:9
 cast-t8 : tie.Need-cast-t8
 cast-t8 c = search needs
 
--- src/lib.rt:207:9
 cast-t9 : tie.Need-cast-t9
 cast-t9 c = search needs
 
--- src/lib.rt:208:9
 cast-t10 : tie.Need-cast-t10
 cast-t10 c = search needs
 
--- src/lib.rt:209:9
 cast-t11 : tie.Need-cast-t11
 cast-t11 c = search needs
 
--- src/lib.rt:211:9
 cast-t12 : tie.Need-cast-t12
 cast-t12 c = search needs
 
--- src/lib.rt:199:1
 returns : tie.Need-returns
 returns c = let s = c .before .before .before .before .before in
     let kind : s .args .kind < 9223372036854775808 = omega arith in

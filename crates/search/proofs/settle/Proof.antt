@@ -10,39 +10,30 @@ use Rattle.search.proofs.settle.Reads as reads
 use Rattle.search.proofs.settle.Lts as lts
 use Rattle.search.proofs.record_words.Reads as record-words-reads
 
--- src/lib.rt:224:13
 enum-told : tie.Need-enum-told
 enum-told c = search needs
 
--- src/lib.rt:221:27
 record-words-requires : tie.Need-record-words-requires
 record-words-requires c κs = search needs
 
--- src/lib.rt:233:28
 enum-known-found : tie.Need-enum-known-found
 enum-known-found c = search needs
 
--- src/lib.rt:233:34
 record-words-requires-2 : tie.Need-record-words-requires-2
 record-words-requires-2 c κs = search needs
 
--- src/lib.rt:234:22
 enum-known-found-2 : tie.Need-enum-known-found-2
 enum-known-found-2 c = search needs
 
--- src/lib.rt:234:28
 record-words-requires-3 : tie.Need-record-words-requires-3
 record-words-requires-3 c κs = search needs
 
--- src/lib.rt:216:1
 returns : tie.Need-returns
 returns c = c .record-words .ensures ∙ sym (ap (λ (o : HeldFound). verdictWords (outcome (c .before .before .before .args .level) (foundOf o)) (c .before .before .before .args .r .count)) (c .before .enum-told .given .1))
 
--- src/lib.rt:216:1
 returns-2 : tie.Need-returns-2
 returns-2 c = c .record-words2 .ensures ∙ sym (ap (λ (o : HeldFound). verdictWords (outcome (c .before .before .before .before .args .level) (foundOf o)) (c .before .before .before .before .args .r .count)) (c .before .before .found .given .1))
 
--- src/lib.rt:216:1
 returns-3 : tie.Need-returns-3
 returns-3 c = c .record-words3 .ensures ∙ sym (ap (λ (o : HeldFound). verdictWords (outcome (c .before .before .before .before .args .level) (foundOf o)) (c .before .before .before .before .args .r .count)) (c .before .before .found2 .given .1))
 

@@ -12,15 +12,12 @@ use Rattle.search.proofs.with_cell.Reads as reads
 use Rattle.search.proofs.with_cell.Lts as lts
 use Rattle.search.proofs.least.Reads as least-reads
 
--- src/lib.rt:196:14
 least-requires : tie.Need-least-requires
 least-requires c κs = search needs
 
--- src/lib.rt:197:15
 least-requires-2 : tie.Need-least-requires-2
 least-requires-2 c κs = search needs
 
--- src/lib.rt:189:1
 returns : tie.Need-returns
 returns c =
     let s = c .before .before .before .before in

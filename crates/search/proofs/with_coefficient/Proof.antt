@@ -4,27 +4,21 @@ use Rattle.search.proofs.with_coefficient.Tie as tie
 use Rattle.search.proofs.with_coefficient.Reads as reads
 use Rattle.search.proofs.with_coefficient.Lts as lts
 
--- src/lib.rt:105:27
 enum-told : tie.Need-enum-told
 enum-told c = search needs
 
--- src/lib.rt:106:28
 enum-known-found : tie.Need-enum-known-found
 enum-known-found c = search needs
 
--- src/lib.rt:107:22
 enum-known-found-2 : tie.Need-enum-known-found-2
 enum-known-found-2 c = search needs
 
--- src/lib.rt:101:1
 returns : tie.Need-returns
 returns c = rw (c .enum-told .given .1)
 
--- src/lib.rt:101:1
 returns-2 : tie.Need-returns-2
 returns-2 c = rw (c .before .found .given .1)
 
--- src/lib.rt:101:1
 returns-3 : tie.Need-returns-3
 returns-3 c = rw (c .before .found2 .given .1)
 
