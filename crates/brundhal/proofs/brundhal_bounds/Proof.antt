@@ -1,12 +1,9 @@
+-- `brundhal::brundhal_bounds` meets its contract: the answer of the inspector, in numbers. Assumes nothing.
 use mathlib.Core.Path.{ap, _∙_}
 use Rattle.brundhal.specs.Meaning.{pairOf}
 use borrow.Author.Needs.{needs}
 use Rattle.brundhal.proofs.brundhal_bounds.Statement.{statement}
 use Rattle.brundhal.proofs.brundhal_bounds.Tie as tie
-use Rattle.brundhal.proofs.brundhal_bounds.Reads as reads
-use Rattle.brundhal.proofs.brundhal_bounds.Lts as lts
-use Rattle.brundhal.proofs.pair.Reads as pair-reads
-use Rattle.inspector.proofs.bounds_of.Reads as bounds-of-reads
 
 bounds-of-requires : tie.Need-bounds-of-requires
 bounds-of-requires c κs = search needs

@@ -1,14 +1,10 @@
+-- `brundhal::brundhal_corner` meets its contract: the answer of the address. Assumes nothing.
 use mathlib.Core.Path.{ap, _∙_}
 use Rattle.definitions.specs.Limits.{base}
 use Rattle.definitions.specs.Address.{Address, cornerAddress}
 use borrow.Author.Needs.{needs}
 use Rattle.brundhal.proofs.brundhal_corner.Statement.{statement}
 use Rattle.brundhal.proofs.brundhal_corner.Tie as tie
-use Rattle.brundhal.proofs.brundhal_corner.Reads as reads
-use Rattle.brundhal.proofs.brundhal_corner.Lts as lts
-use Rattle.address.proofs.Address.corner.Reads as corner-reads
-use Rattle.brundhal.proofs.address.Reads as address-reads
-use Rattle.brundhal.proofs.moved.Reads as moved-reads
 
 address-requires : tie.Need-address-requires
 address-requires c κs = search needs

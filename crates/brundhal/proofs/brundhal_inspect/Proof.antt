@@ -1,12 +1,9 @@
+-- `brundhal::brundhal_inspect` meets its contract: the answer of the inspector, in numbers. Assumes nothing.
 use mathlib.Core.Path.{ap, _∙_}
 use Rattle.brundhal.specs.Meaning.{numbersOf}
 use borrow.Author.Needs.{needs}
 use Rattle.brundhal.proofs.brundhal_inspect.Statement.{statement}
 use Rattle.brundhal.proofs.brundhal_inspect.Tie as tie
-use Rattle.brundhal.proofs.brundhal_inspect.Reads as reads
-use Rattle.brundhal.proofs.brundhal_inspect.Lts as lts
-use Rattle.brundhal.proofs.numbers.Reads as numbers-reads
-use Rattle.inspector.proofs.inspect.Reads as inspect-reads
 
 inspect-requires : tie.Need-inspect-requires
 inspect-requires c κs = search needs

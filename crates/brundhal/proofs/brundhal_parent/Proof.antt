@@ -1,14 +1,10 @@
+-- `brundhal::brundhal_parent` meets its contract: the answer of the address. Assumes nothing.
 use mathlib.Core.Path.{ap, _∙_}
 use Rattle.definitions.specs.Limits.{base}
 use Rattle.definitions.specs.Address.{parentAddress}
 use borrow.Author.Needs.{needs}
 use Rattle.brundhal.proofs.brundhal_parent.Statement.{statement}
 use Rattle.brundhal.proofs.brundhal_parent.Tie as tie
-use Rattle.brundhal.proofs.brundhal_parent.Reads as reads
-use Rattle.brundhal.proofs.brundhal_parent.Lts as lts
-use Rattle.address.proofs.Address.parent.Reads as parent-reads
-use Rattle.brundhal.proofs.address.Reads as address-reads
-use Rattle.brundhal.proofs.moved.Reads as moved-reads
 
 address-requires : tie.Need-address-requires
 address-requires c κs = search needs

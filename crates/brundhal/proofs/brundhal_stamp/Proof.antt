@@ -1,12 +1,9 @@
+-- `brundhal::brundhal_stamp` meets its contract: by the number. Assumes nothing.
 use mathlib.Core.Path.{sym, ap, _∙_}
 use Rattle.brundhal.specs.Meaning.{numbersHeld, stampNumber, other-number, zero-number}
 use borrow.Author.Needs.{needs}
 use Rattle.brundhal.proofs.brundhal_stamp.Statement.{statement}
 use Rattle.brundhal.proofs.brundhal_stamp.Tie as tie
-use Rattle.brundhal.proofs.brundhal_stamp.Reads as reads
-use Rattle.brundhal.proofs.brundhal_stamp.Lts as lts
-use Rattle.brundhal.proofs.stamp_number.Reads as stamp-number-reads
-use Rattle.inspector.proofs.stamp_of.Reads as stamp-of-reads
 
 returns : tie.Need-returns
 returns c = sym (other-number (numbersHeld (c .before .before .args .answer)) (c .if1 .taken))

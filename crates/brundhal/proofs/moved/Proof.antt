@@ -1,10 +1,9 @@
+-- `brundhal::moved` meets its contract: by the answer's cases. Assumes nothing.
 use mathlib.Core.Path.{sym, ap}
 use Rattle.address.specs.Meaning.{moveOf}
 use borrow.Author.Needs.{needs}
 use Rattle.brundhal.proofs.moved.Statement.{statement}
 use Rattle.brundhal.proofs.moved.Tie as tie
-use Rattle.brundhal.proofs.moved.Reads as reads
-use Rattle.brundhal.proofs.moved.Lts as lts
 
 enum-known-answer : tie.Need-enum-known-answer
 enum-known-answer c = search needs

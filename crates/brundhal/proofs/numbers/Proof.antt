@@ -1,3 +1,4 @@
+-- `brundhal::numbers` meets its contract: by the answer's cases. Assumes nothing.
 use mathlib.Core.Path.{sym, ap, _∙_}
 use Rattle.inspector.specs.declared.Inspection.{Inspection}
 use Rattle.inspector.specs.Meaning.{inspectionHeld}
@@ -5,9 +6,6 @@ use Rattle.brundhal.specs.Meaning.{numbersOf, numbersHeld}
 use borrow.Author.Needs.{needs}
 use Rattle.brundhal.proofs.numbers.Statement.{statement}
 use Rattle.brundhal.proofs.numbers.Tie as tie
-use Rattle.brundhal.proofs.numbers.Reads as reads
-use Rattle.brundhal.proofs.numbers.Lts as lts
-use Rattle.brundhal.proofs.refused.Reads as refused-reads
 
 enum-known-answer : tie.Need-enum-known-answer
 enum-known-answer c = search needs

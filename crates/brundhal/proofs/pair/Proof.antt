@@ -1,3 +1,4 @@
+-- `brundhal::pair` meets its contract: by the answer's cases. Assumes nothing.
 use mir.Syntax.{w64}
 use mir.ValLaws.{toZ-ofZ}
 use mathlib.Core.Path.{sym, ap, _∙_}
@@ -7,8 +8,6 @@ use Rattle.brundhal.specs.Meaning.{pairOf}
 use borrow.Author.Needs.{needs}
 use Rattle.brundhal.proofs.pair.Statement.{statement}
 use Rattle.brundhal.proofs.pair.Tie as tie
-use Rattle.brundhal.proofs.pair.Reads as reads
-use Rattle.brundhal.proofs.pair.Lts as lts
 
 enum-known-answer : tie.Need-enum-known-answer
 enum-known-answer c = search needs

@@ -1,3 +1,4 @@
+-- `inspector::bounds_of` meets its contract: by the depth and the first coordinate out of range. Assumes nothing.
 use mathlib.Core.Path.{sym, ap, ap₂, _∙_}
 use native.Mathlib.Omega.{arith}
 use borrow.Kind.Array.{eSInt, good-length}
@@ -12,10 +13,6 @@ use Rattle.inspector.specs.Answers.{bounds-deep, bounds-outside, bounds-
 use borrow.Author.Needs.{needs}
 use Rattle.inspector.proofs.bounds_of.Statement.{statement}
 use Rattle.inspector.proofs.bounds_of.Tie as tie
-use Rattle.inspector.proofs.bounds_of.Reads as reads
-use Rattle.inspector.proofs.bounds_of.Lts as lts
-use Rattle.inspector.proofs.points_bounds.Reads as points-bounds-reads
-use Rattle.mesh.proofs.out_of_range.Reads as out-of-range-reads
 
 returns : tie.Need-returns
 returns c = sym (bounds-deep base (c .before .args .t1) (c .before .args .depth) (c .if1 .taken))

@@ -1,3 +1,4 @@
+-- `inspector::element` meets its contract: by the element's fault, or its points. Assumes nothing.
 use mathlib.Core.Path.{_≡_, sym, ap, _∙_, subst}
 use mathlib.Core.List.{List}
 use mathlib.Core.Option.{none}
@@ -13,12 +14,6 @@ use Rattle.mesh.specs.Elements.{whole-element, read-within, length-points}
 use borrow.Author.Needs.{needs}
 use Rattle.inspector.proofs.element.Statement.{statement}
 use Rattle.inspector.proofs.element.Tie as tie
-use Rattle.inspector.proofs.element.Reads as reads
-use Rattle.inspector.proofs.element.Lts as lts
-use Rattle.inspector.proofs.points_record.Reads as points-record-reads
-use Rattle.mesh.proofs.fault.Reads as fault-reads
-use Rattle.mesh.proofs.fault_words.Reads as fault-words-reads
-use Rattle.mesh.proofs.gather.Reads as gather-reads
 
 fault-requires : tie.Need-fault-requires
 fault-requires c κs = search needs

@@ -1,3 +1,4 @@
+-- `inspector::inspect` meets its contract: by what refuses the mesh. Assumes nothing.
 use mathlib.Core.Path.{_≡_, sym, ap, _∙_}
 use mathlib.Core.Option.{none, some}
 use lib.ListN.{length}
@@ -10,11 +11,6 @@ use Rattle.inspector.specs.Answers.{refusalHere, refused-answer, refused
 use borrow.Author.Needs.{needs}
 use Rattle.inspector.proofs.inspect.Statement.{statement}
 use Rattle.inspector.proofs.inspect.Tie as tie
-use Rattle.inspector.proofs.inspect.Reads as reads
-use Rattle.inspector.proofs.inspect.Lts as lts
-use Rattle.inspector.proofs.write_records.Reads as write-records-reads
-use Rattle.mesh.proofs.check.Reads as check-reads
-use Rattle.subdivision.proofs.table.Reads as table-reads
 
 check-requires : tie.Need-check-requires
 check-requires c κs = search needs

@@ -1,8 +1,7 @@
+-- `inspector::is_sound` meets its contract: a sum is 0 where both are. Assumes nothing.
 use Rattle.inspector.specs.Answers.{none-of-both}
 use Rattle.inspector.proofs.is_sound.Statement.{statement}
 use Rattle.inspector.proofs.is_sound.Tie as tie
-use Rattle.inspector.proofs.is_sound.Reads as reads
-use Rattle.inspector.proofs.is_sound.Lts as lts
 
 returns : tie.Need-returns
 returns c = none-of-both (c .before .before .args .n .invalid) (c .before .before .args .n .refused)

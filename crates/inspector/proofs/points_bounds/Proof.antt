@@ -1,3 +1,4 @@
+-- `inspector::points_bounds` meets its contract: the coefficients are as small as a search asks. Assumes nothing.
 use mathlib.Core.Path.{sym, ap, _∙_}
 use lib.ListN.{length}
 use denote.Ref.{now}
@@ -6,11 +7,6 @@ use Rattle.inspector.specs.Points.{points-control}
 use borrow.Author.Needs.{needs}
 use Rattle.inspector.proofs.points_bounds.Statement.{statement}
 use Rattle.inspector.proofs.points_bounds.Tie as tie
-use Rattle.inspector.proofs.points_bounds.Reads as reads
-use Rattle.inspector.proofs.points_bounds.Lts as lts
-use Rattle.control.proofs.coefficients.Reads as coefficients-reads
-use Rattle.search.proofs.bounds.Reads as bounds-reads
-use Rattle.subdivision.proofs.table.Reads as table-reads
 
 table-requires : tie.Need-table-requires
 table-requires c κs = search needs

@@ -1,3 +1,4 @@
+-- `inspector::points_record` meets its contract: the coefficients are as small as a search asks. Assumes nothing.
 use mathlib.Core.Path.{sym, ap, _∙_}
 use lib.ListN.{length}
 use denote.Ref.{now}
@@ -6,10 +7,6 @@ use Rattle.inspector.specs.Points.{points-control}
 use borrow.Author.Needs.{needs}
 use Rattle.inspector.proofs.points_record.Statement.{statement}
 use Rattle.inspector.proofs.points_record.Tie as tie
-use Rattle.inspector.proofs.points_record.Reads as reads
-use Rattle.inspector.proofs.points_record.Lts as lts
-use Rattle.control.proofs.coefficients.Reads as coefficients-reads
-use Rattle.search.proofs.record.Reads as record-reads
 
 coefficients-requires : tie.Need-coefficients-requires
 coefficients-requires c κs = search needs

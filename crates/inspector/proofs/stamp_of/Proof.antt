@@ -1,3 +1,4 @@
+-- `inspector::stamp_of` meets its contract: by the answer's cases. Assumes nothing.
 use mathlib.Core.Path.{sym, ap, _∙_}
 use Rattle.definitions.specs.Mesh.{depthTooGreat, badCoordinates, badIndices, badSpace, stampOf}
 use Rattle.inspector.specs.declared.Inspection.{Inspection}
@@ -6,9 +7,6 @@ use Rattle.inspector.specs.Answers.{stamp-sound, stamp-faulty, stamp-ref
 use borrow.Author.Needs.{needs}
 use Rattle.inspector.proofs.stamp_of.Statement.{statement}
 use Rattle.inspector.proofs.stamp_of.Tie as tie
-use Rattle.inspector.proofs.stamp_of.Reads as reads
-use Rattle.inspector.proofs.stamp_of.Lts as lts
-use Rattle.inspector.proofs.is_sound.Reads as is-sound-reads
 
 enum-known-answer : tie.Need-enum-known-answer
 enum-known-answer c = search needs

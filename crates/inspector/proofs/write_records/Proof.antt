@@ -1,6 +1,7 @@
-use mathlib.Core.Path.{_≡_, refl, sym, ap, _∙_, subst}
+-- `inspector::write_records` meets its contract: before each turn the first e records are written and counted, and the space after them is as it was. Assumes nothing.
+use mathlib.Core.Path.{_≡_, refl, sym, ap, _∙_}
 use mathlib.Core.List.{List}
-use Prim.Native.Nat.{ℕ, _+_, _*_, _-_, _/_, _≤_, _<_, zero-le}
+use Prim.Native.Nat.{ℕ, _*_, _-_, _/_, _≤_, zero-le}
 use native.Mathlib.Omega.{arith}
 use lib.ListN.{getD, length, take, drop}
 use lib.IntN.{ℤ, pos, natAbs}
@@ -14,14 +15,9 @@ use Rattle.definitions.specs.Mesh.{elementRecord, counted, countsOf}
 use Rattle.verdict.specs.Elements.{total}
 use Rattle.mesh.specs.Report.{kind-natural}
 use Rattle.mesh.specs.Meaning.{countsHeld}
-use Rattle.inspector.specs.Reports.{recordAt, firstRecords, written, spaceAt, written-length, space-length, written-next, counts-next, space-last, counts-last-of, part-of, part-length, natural-by, counted-so-far, put-record}
+use Rattle.inspector.specs.Reports.{recordAt, firstRecords, spaceAt, space-length, counts-next, space-last, counts-last-of, part-of, part-length, natural-by, counted-so-far, put-record}
 use Rattle.inspector.proofs.write_records.Statement.{statement}
 use Rattle.inspector.proofs.write_records.Tie as tie
-use Rattle.inspector.proofs.write_records.Reads as reads
-use Rattle.inspector.proofs.write_records.Lts as lts
-use Rattle.inspector.proofs.element.Reads as element-reads
-use Rattle.mesh.proofs.counted.Reads as counted-reads
-use Rattle.mesh.proofs.put.Reads as put-reads
 
 abbrev Inv-loop : tie.InvT-loop
 Inv-loop coordinates indices depth t report₀ counts₀ n e₀ report counts e = (e ≤ n) × (report ≡ spaceAt base coordinates indices depth e report₀) × (countsHeld counts ≡ countsOf (firstRecords base coordinates indices depth e))

@@ -1,3 +1,4 @@
+-- `search::visit` meets its contract: the branches are those of the recursion; in the loop, the first k children have been visited. Assumes nothing.
 use mathlib.Core.Path.{_≡_, refl, sym, ap, _∙_, subst}
 use mathlib.Core.List.{List}
 use lib.IntN.{ℤ}
@@ -7,7 +8,7 @@ use denote.Ref.{now}
 use borrow.Author.Needs.{needs}
 use Rattle.definitions.specs.Subdivision.{Cell}
 use Rattle.verdict.specs.Search.{Pass, visit as visited}
-use Rattle.search.specs.Meaning.{cellOf, passOf, foundOf, Room}
+use Rattle.search.specs.Meaning.{cellOf, passOf, Room}
 use Rattle.search.specs.Visit.{visit-ended, visit-last, visit-clear, over, visit-over, visit-count, child-room, cut-room, part-is, child-cell, pow-left, times-next, times-most, over-next, over-last}
 use borrow.Fn.Kinds.{In}
 use borrow.Fn.PlainCycle.{Measures, is, falls, and}

@@ -1,3 +1,4 @@
+-- `search::bounds` meets its contract: no coefficient passes the greatest number. Assumes nothing.
 use mathlib.Core.Path.{ap, _∙_}
 use denote.Ref.{now}
 use Rattle.definitions.specs.Subdivision.{Cell}
@@ -7,10 +8,6 @@ use Rattle.search.specs.Bounds.{greatest, bounds-are}
 use borrow.Author.Needs.{needs}
 use Rattle.search.proofs.bounds.Statement.{statement}
 use Rattle.search.proofs.bounds.Tie as tie
-use Rattle.search.proofs.bounds.Reads as reads
-use Rattle.search.proofs.bounds.Lts as lts
-use Rattle.search.proofs.survey.Reads as survey-reads
-use Rattle.search.proofs.whole.Reads as whole-reads
 
 whole-requires : tie.Need-whole-requires
 whole-requires c κs = search needs

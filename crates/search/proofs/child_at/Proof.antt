@@ -1,3 +1,4 @@
+-- `search::child_at` meets its contract: the move is made, since the cell is not of the finest level. Assumes nothing.
 use mathlib.Core.Path.{_≡_, _∙_}
 use mathlib.Core.Bool.{true}
 use Prim.Native.Nat.{_+_}
@@ -9,9 +10,6 @@ use Rattle.search.specs.Meaning.{childOf}
 use Rattle.search.proofs.Laws.{child-made, to-address, not-address}
 use Rattle.search.proofs.child_at.Statement.{statement}
 use Rattle.search.proofs.child_at.Tie as tie
-use Rattle.search.proofs.child_at.Reads as reads
-use Rattle.search.proofs.child_at.Lts as lts
-use Rattle.address.proofs.Address.child.Reads as child-reads
 
 cast-child : tie.Need-cast-child
 cast-child c = search needs

@@ -1,3 +1,4 @@
+-- `search::corner_at` meets its contract: the move is made, since the address is a cell's. Assumes nothing.
 use mathlib.Core.Path.{_≡_, _∙_}
 use mathlib.Core.Bool.{true}
 use Prim.Native.Nat.{_+_}
@@ -9,9 +10,6 @@ use Rattle.search.specs.Meaning.{cornerOf}
 use Rattle.search.proofs.Laws.{corner-made, to-address, not-address}
 use Rattle.search.proofs.corner_at.Statement.{statement}
 use Rattle.search.proofs.corner_at.Tie as tie
-use Rattle.search.proofs.corner_at.Reads as reads
-use Rattle.search.proofs.corner_at.Lts as lts
-use Rattle.address.proofs.Address.corner.Reads as corner-reads
 
 cast-corner : tie.Need-cast-corner
 cast-corner c = search needs

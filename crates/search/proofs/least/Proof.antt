@@ -1,5 +1,6 @@
+-- `search::least` meets its contract: before each turn r is the least of v and the coefficients passed. Assumes nothing.
 use mathlib.Core.Path.{_≡_, refl, sym, ap₂, _∙_}
-use Prim.Native.Nat.{ℕ, _+_, _-_, _≤_, _<_, zero-le}
+use Prim.Native.Nat.{_-_, _≤_, _<_, zero-le}
 use native.Mathlib.Omega.{arith}
 use borrow.Author.Needs.{needs}
 use lib.ListN.{getD, length, take}
@@ -11,9 +12,6 @@ use Rattle.foundation.specs.Least.{lesser, leastFrom}
 use Rattle.search.specs.Bounds.{least-next}
 use Rattle.search.proofs.least.Statement.{statement}
 use Rattle.search.proofs.least.Tie as tie
-use Rattle.search.proofs.least.Reads as reads
-use Rattle.search.proofs.least.Lts as lts
-use Rattle.search.proofs.lesser.Reads as lesser-reads
 
 abbrev Inv-loop : tie.InvT-loop
 Inv-loop g n v r₀ k₀ r k = (k ≤ n) × (toZ w64 r ≡ leastFrom (toZ w64 v) (take k g))

@@ -1,3 +1,4 @@
+-- `search::lesser` meets its contract: by the test. Assumes nothing.
 use mathlib.Core.Path.{sym, ap, ap₂, _∙_}
 use mathlib.Core.Bool.{Bool, cond}
 use lib.Signed.{leZ}
@@ -5,8 +6,6 @@ use mir.Syntax.{w64}
 use mir.ValLaws.{toZ-ofZ}
 use Rattle.search.proofs.lesser.Statement.{statement}
 use Rattle.search.proofs.lesser.Tie as tie
-use Rattle.search.proofs.lesser.Reads as reads
-use Rattle.search.proofs.lesser.Lts as lts
 
 returns : tie.Need-returns
 returns c = let x = c .before .args .x in let y = c .before .args .y in

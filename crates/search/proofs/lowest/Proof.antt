@@ -1,7 +1,7 @@
 -- `search::lowest` meets its contract: before each turn no coefficient passed is low. Assumes nothing.
 use mathlib.Core.Path.{_≡_, refl, sym, ap, _∙_}
 use mathlib.Core.Bool.{true, false}
-use Prim.Native.Nat.{ℕ, _+_, _-_, _≤_, _<_, zero-le}
+use Prim.Native.Nat.{_+_, _-_, _≤_, _<_, zero-le}
 use native.Mathlib.Omega.{arith}
 use borrow.Author.Needs.{needs}
 use lib.ListN.{getD}
@@ -13,8 +13,6 @@ use Rattle.search.specs.Meaning.{lowFrom, lowest}
 use Rattle.search.specs.Lowest.{low-here, low-later}
 use Rattle.search.proofs.lowest.Statement.{statement}
 use Rattle.search.proofs.lowest.Tie as tie
-use Rattle.search.proofs.lowest.Reads as reads
-use Rattle.search.proofs.lowest.Lts as lts
 
 abbrev Inv-loop : tie.InvT-loop
 Inv-loop g k₀ k = (k ≤ 27) × (lowest g ≡ lowFrom g k (27 - k))

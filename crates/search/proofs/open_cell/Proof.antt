@@ -1,24 +1,19 @@
-use mathlib.Core.Path.{_≡_, refl, sym, _∙_, ap}
-use Prim.Native.Nat.{ℕ, suc, _+_, _-_, _<_, _≤_}
+-- `search::open_cell` meets its contract: by the lowest number: none, a corner's, another's. Assumes nothing.
+use mathlib.Core.Path.{_≡_, sym, _∙_, ap}
+use Prim.Native.Nat.{suc, _+_, _-_, _<_, _≤_}
 use native.Mathlib.Omega.{arith}
 use lib.ListN.{getD}
-use lib.IntN.{ℤ, pos}
+use lib.IntN.{pos}
 use mir.Syntax.{w64}
 use mir.ValLaws.{toZ-ofZ}
 use denote.Ref.{now}
 use borrow.Author.Needs.{needs}
 use Rattle.definitions.specs.Verdict.{Finding}
-use Rattle.verdict.specs.Search.{Found, point, Pass}
+use Rattle.verdict.specs.Search.{Found, point}
 use Rattle.search.specs.Meaning.{cellOf, foundOf, withCoefficient}
 use Rattle.search.specs.Lowest.{opened-nothing, opened-corner, opened-coefficient, corner-finding, cell-finding}
 use Rattle.search.proofs.open_cell.Statement.{statement}
 use Rattle.search.proofs.open_cell.Tie as tie
-use Rattle.search.proofs.open_cell.Reads as reads
-use Rattle.search.proofs.open_cell.Lts as lts
-use Rattle.search.proofs.corner_at.Reads as corner-at-reads
-use Rattle.search.proofs.finding_at.Reads as finding-at-reads
-use Rattle.search.proofs.lowest.Reads as lowest-reads
-use Rattle.search.proofs.with_coefficient.Reads as with-coefficient-reads
 
 lowest-requires : tie.Need-lowest-requires
 lowest-requires c κs = search needs

@@ -1,3 +1,4 @@
+-- `search::pass_at` meets its contract: the whole element has room for every level. Assumes nothing.
 use mathlib.Core.Path.{ap, _∙_}
 use denote.Ref.{now}
 use Rattle.definitions.specs.Subdivision.{Cell}
@@ -6,10 +7,6 @@ use Rattle.search.specs.Levels.{fresh, whole-room, whole-cell}
 use borrow.Author.Needs.{needs}
 use Rattle.search.proofs.pass_at.Statement.{statement}
 use Rattle.search.proofs.pass_at.Tie as tie
-use Rattle.search.proofs.pass_at.Reads as reads
-use Rattle.search.proofs.pass_at.Lts as lts
-use Rattle.search.proofs.visit.Reads as visit-reads
-use Rattle.search.proofs.whole.Reads as whole-reads
 
 whole-requires : tie.Need-whole-requires
 whole-requires c κs = search needs

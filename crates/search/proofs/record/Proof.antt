@@ -1,7 +1,8 @@
+-- `search::record` meets its contract: between passes the levels before are all blocked; the loop ends at a pass that settles, or at the depth. Assumes nothing.
 use mathlib.Core.Path.{_≡_, sym, ap, _∙_}
 use mathlib.Core.Bool.{Bool, true, false, _&&_, and-true, and-eq-true-iff}
 use mathlib.Core.List.{List}
-use Prim.Native.Nat.{ℕ, _+_, _-_, _≤_, _<_, zero-le}
+use Prim.Native.Nat.{_-_, _≤_, _<_, zero-le}
 use native.Mathlib.Omega.{arith}
 use borrow.Author.Needs.{needs}
 use borrow.Author.Tests.{ltb-true, ltb-false}
@@ -14,11 +15,6 @@ use Rattle.search.specs.Meaning.{passOf, foundOf}
 use Rattle.search.specs.Levels.{isBlocked, At, at-first, at-next, settled, most-room, count-room}
 use Rattle.search.proofs.record.Statement.{statement}
 use Rattle.search.proofs.record.Tie as tie
-use Rattle.search.proofs.record.Reads as reads
-use Rattle.search.proofs.record.Lts as lts
-use Rattle.search.proofs.blocked.Reads as blocked-reads
-use Rattle.search.proofs.pass_at.Reads as pass-at-reads
-use Rattle.search.proofs.settle.Reads as settle-reads
 
 abbrev Inv-loop : tie.InvT-loop
 Inv-loop g depth t m₀ r₀ m r = (m ≤ depth) × (r .count ≤ most m) × ((xs : List ℤ) → g ≡ coefficients xs → At xs m (passOf r))

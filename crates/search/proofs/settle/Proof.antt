@@ -1,3 +1,4 @@
+-- `search::settle` meets its contract: by what was found. Assumes nothing.
 use mathlib.Core.Path.{sym, ap, _∙_}
 use Rattle.definitions.specs.Record.{verdictWords}
 use Rattle.search.specs.declared.Found.{Found as HeldFound}
@@ -6,9 +7,6 @@ use Rattle.search.specs.Levels.{outcome}
 use borrow.Author.Needs.{needs}
 use Rattle.search.proofs.settle.Statement.{statement}
 use Rattle.search.proofs.settle.Tie as tie
-use Rattle.search.proofs.settle.Reads as reads
-use Rattle.search.proofs.settle.Lts as lts
-use Rattle.search.proofs.record_words.Reads as record-words-reads
 
 enum-told : tie.Need-enum-told
 enum-told c = search needs

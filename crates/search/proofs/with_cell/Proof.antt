@@ -1,3 +1,4 @@
+-- `search::with_cell` meets its contract: the two leasts, read back. Assumes nothing.
 use mathlib.Core.Path.{ap, _∙_}
 use lib.ListN.{take}
 use lib.IntN.{ℤ}
@@ -8,9 +9,6 @@ use Rattle.foundation.specs.Least.{leastFrom}
 use borrow.Author.Needs.{needs}
 use Rattle.search.proofs.with_cell.Statement.{statement}
 use Rattle.search.proofs.with_cell.Tie as tie
-use Rattle.search.proofs.with_cell.Reads as reads
-use Rattle.search.proofs.with_cell.Lts as lts
-use Rattle.search.proofs.least.Reads as least-reads
 
 least-requires : tie.Need-least-requires
 least-requires c κs = search needs

@@ -1,8 +1,7 @@
+-- `search::with_coefficient` meets its contract: by what was found. Assumes nothing.
 use borrow.Author.Needs.{needs}
 use Rattle.search.proofs.with_coefficient.Statement.{statement}
 use Rattle.search.proofs.with_coefficient.Tie as tie
-use Rattle.search.proofs.with_coefficient.Reads as reads
-use Rattle.search.proofs.with_coefficient.Lts as lts
 
 enum-told : tie.Need-enum-told
 enum-told c = search needs

@@ -1,11 +1,8 @@
+-- `worked::print_record` meets its contract: k stays within the record. Assumes nothing.
 use Prim.Native.Nat.{_≤_, _-_}
 use borrow.Author.Needs.{needs}
 use Rattle.worked.proofs.print_record.Statement.{statement}
 use Rattle.worked.proofs.print_record.Tie as tie
-use Rattle.worked.proofs.print_record.Reads as reads
-use Rattle.worked.proofs.print_record.Lts as lts
-use Rattle.io.proofs.write_all.Reads as write-all-reads
-use Rattle.worked.proofs.print_signed.Reads as print-signed-reads
 
 abbrev Inv-loop : tie.InvT-loop
 Inv-loop report k₀ t5 k = k ≤ 8

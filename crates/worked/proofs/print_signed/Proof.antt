@@ -1,4 +1,5 @@
-use mathlib.Core.Path.{_≡_, sym, ap, subst}
+-- `worked::print_signed` meets its contract: a negative number's magnitude by way of its neighbour, so that nothing overflows. Assumes nothing.
+use mathlib.Core.Path.{sym, ap, subst}
 use native.Mathlib.Omega.{arith}
 use lib.IntN.{natAbs}
 use mir.Syntax.{w64}
@@ -8,10 +9,6 @@ use Rattle.worked.proofs.Laws.{Negative, negative, up-fits, back-fits, 
 use borrow.Author.Needs.{needs}
 use Rattle.worked.proofs.print_signed.Statement.{statement}
 use Rattle.worked.proofs.print_signed.Tie as tie
-use Rattle.worked.proofs.print_signed.Reads as reads
-use Rattle.worked.proofs.print_signed.Lts as lts
-use Rattle.io.proofs.print_decimal.Reads as print-decimal-reads
-use Rattle.io.proofs.write_all.Reads as write-all-reads
 
 slice-aggregate-write-all : tie.Need-slice-aggregate-write-all
 slice-aggregate-write-all c = search needs
