@@ -1,0 +1,35 @@
+/* Inspects the unit cube at depth 3 and prints its record, the counts and the
+ * stamp. */
+
+#include <brundhal.h>
+#include <inttypes.h>
+#include <stdio.h>
+
+#define LENGTH(array) (sizeof(array) / sizeof((array)[0]))
+
+int main(void)
+{
+    /* Three coordinates a node; eight indices an element, in the order of the
+     * reference cube's corners; eight report words an element. */
+    static const int32_t coordinates[] = {
+        0, 0, 0,  1, 0, 0,  1, 1, 0,  0, 1, 0,
+        0, 0, 1,  1, 0, 1,  1, 1, 1,  0, 1, 1,
+    };
+    static const uint32_t indices[] = { 0, 1, 2, 3, 4, 5, 6, 7 };
+    int64_t report[BRUNDHAL_RECORD_WORDS];
+
+    BrundhalInspection answer = brundhal_inspect(coordinates, LENGTH(coordinates),
+                                                 indices, LENGTH(indices),
+                                                 3, report, LENGTH(report));
+    if (answer.number != 0) {
+        fprintf(stderr, "refused %" PRIu32 "\n", answer.number);
+        return 1;
+    }
+    printf("record");
+    for (size_t word = 0; word < LENGTH(report); word++)
+        printf(" %" PRId64, report[word]);
+    printf("\nvalid %" PRIu32 " invalid %" PRIu32 " undecided %" PRIu32 " refused %" PRIu32 "\n",
+           answer.valid, answer.invalid, answer.undecided, answer.refused);
+    printf("stamp %s\n", brundhal_stamp(answer) == 0 ? "sound" : "faulty");
+    return 0;
+}

@@ -1,0 +1,115 @@
+/* brundhal.h: the hexahedral-mesh inspector, for callers in C.
+ *
+ * The library decides in whole numbers, without rounding, whether the Jacobian
+ * determinant of trilinear hexahedra is positive. Its code is proved against
+ * the definitions of document 01 ("the paper"), which lays down every answer.
+ * Link with libbrundhal.a; no other library is needed but the C library's
+ * memory functions (memset and the like).
+ *
+ * What a caller has to know:
+ *
+ * - Every length is a number of ELEMENTS of the array (int32_t, uint32_t,
+ *   int64_t), never of bytes.
+ * - Nothing has to be checked before a call. Wrong depths, wrong lengths,
+ *   indices that name no node and coordinates outside the range are answered
+ *   with their number, as below.
+ * - All memory is the caller's. The library keeps no pointer after a call,
+ *   allocates nothing, holds no state and may be called from several threads
+ *   at once. Only the report space is written.
+ * - What the library cannot see is the caller's part: each pointer must be
+ *   valid for the length that stands beside it and aligned for its type, and
+ *   the report space must not overlap the two runs. A null pointer is not
+ *   allowed, not even with a length of 0: pass the address of anything of the
+ *   right type then.
+ */
+#ifndef BRUNDHAL_H
+#define BRUNDHAL_H
+
+#include <stddef.h>
+#include <stdint.h>
+
+#ifdef __cplusplus
+extern "C" {
+#endif
+
+/* Report words an element: the length of a record. */
+#define BRUNDHAL_RECORD_WORDS 8
+
+/* The answer of an inspection. number is 0 for an accepted mesh. A refused mesh
+ * has all four counts 0, and its number is
+ *   1  the depth is above 3
+ *   2  coordinates_len is no multiple of 3, or there are over 5,000 nodes
+ *   3  indices_len is no multiple of 8, or there are over 1,000 elements
+ *   4  report_len is not exactly 8 words an element
+ * tested in this order. */
+typedef struct {
+    uint32_t number;
+    uint32_t valid, invalid, undecided, refused; /* records of each kind */
+} BrundhalInspection;
+
+/* Inspects a mesh.
+ *   coordinates  x, y, z of node 0, then of node 1, and so on; usable from
+ *                -4,096 to 4,096
+ *   indices      eight an element, naming nodes from 0, in the order of the
+ *                reference cube's corners (0,0,0), (1,0,0), (1,1,0), (0,1,0),
+ *                (0,0,1), (1,0,1), (1,1,1), (0,1,1)
+ *   depth        0 to 3
+ *   report       eight words an element, in element order
+ * The report space is written only if the mesh is accepted (number 0), and then
+ * every word of it; it need not be cleared before. A record:
+ *
+ *   word     valid    invalid                undecided               refused
+ *   0        0        1                      2                       5 or 6
+ *   1        level    level                  depth                   place 1..8
+ *   2, 3, 4  0        a, b, c of the point   a, b, c of the cube     5: the index, 0, 0
+ *                                                                    6: axis 1..3, 0, 0
+ *   5        0        corner number          coefficient number      0
+ *   6        0        J times 8*64^level     the coefficient times   0
+ *                                            8*64^depth
+ *   7        opened   opened                 opened                  0
+ *
+ * 5 is an index not below the node count, 6 a coordinate outside the range;
+ * both concern that element's record alone. */
+BrundhalInspection brundhal_inspect(const int32_t *coordinates, size_t coordinates_len,
+                                    const uint32_t *indices, size_t indices_len,
+                                    uint32_t depth,
+                                    int64_t *report, size_t report_len);
+
+/* The answer of the bounds service: number 0 with both bounds, or both 0 with
+ *   1  the depth is above 3
+ *   6  a coordinate is outside the range
+ * tested in this order. low is the least coefficient of all cubes of that depth,
+ * high the least J over all its grid points, both times 8*64^depth. */
+typedef struct {
+    uint32_t number;
+    int64_t low, high;
+} BrundhalBounds;
+
+/* The bounds of eight points, x, y, z of each: 24 numbers, which are only read. */
+BrundhalBounds brundhal_bounds(const int32_t points[24], uint32_t depth);
+
+/* The stamp of an inspection's answer: 0 "sound" when no record is invalid or
+ * refused, 1 "faulty" otherwise. A refused mesh is faulty. */
+uint32_t brundhal_stamp(BrundhalInspection answer);
+
+/* A cube's address: its level and the grid numbers of its lowest corner. */
+typedef struct {
+    uint32_t level, a, b, c;
+} BrundhalAddress;
+
+/* Where a move led: made is 1 with the new address, or 0 with the same address
+ * for a move that cannot be made. */
+typedef struct {
+    uint32_t made, level, a, b, c;
+} BrundhalMove;
+
+/* To child n or corner n, 1 to 8, or to the parent. */
+BrundhalMove brundhal_child(BrundhalAddress q, uint32_t n);
+BrundhalMove brundhal_corner(BrundhalAddress q, uint32_t n);
+BrundhalMove brundhal_parent(BrundhalAddress q);
+
+#ifdef __cplusplus
+}
+#endif
+
+#endif

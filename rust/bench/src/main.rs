@@ -1,0 +1,124 @@
+//! Time an element: the built library, an ordinary Rust version with direct
+//! formulas, and the library's own method in ordinary Rust.
+//!
+//! Prints, for lots of 900 elements at depth 3, the best of several rounds in
+//! microseconds an element and the ratios.  The three reports of each lot must
+//! be the same, word for word.  Use: `bench`, or `bench ROUNDS`, or `bench
+//! ROUNDS NAME` for the lots whose name begins with NAME.
+
+#![deny(warnings)]
+// The tests of lengths read as the rules do.
+#![allow(clippy::manual_is_multiple_of)]
+
+mod direct;
+mod lots;
+mod mesh;
+mod same_method;
+
+use lots::{lots, Lot, DEPTH, ELEMENTS};
+use mesh::Answer;
+use std::hint::black_box;
+use std::time::{Duration, Instant};
+
+type Inspect = fn(&[i32], &[u32], u32, &mut [i64]) -> Answer;
+
+fn library(coordinates: &[i32], indices: &[u32], depth: u32, report: &mut [i64]) -> Answer {
+    let answer = brundhal::inspect(coordinates, indices, depth, report);
+    [answer.number, answer.valid, answer.invalid, answer.undecided, answer.refused]
+}
+
+const VERSIONS: [(&str, Inspect); 3] =
+    [("library", library), ("direct", direct::inspect), ("same method", same_method::inspect)];
+
+/// A sum over all report words in which the order counts.
+fn checksum(report: &[i64]) -> u64 {
+    let step = |sum: u64, word: &i64| (sum ^ *word as u64).wrapping_mul(0x100_0000_01B3);
+    report.iter().fold(0xCBF2_9CE4_8422_2325, step)
+}
+
+fn report_of(lot: &Lot, inspect: Inspect) -> (Answer, Vec<i64>) {
+    let mut report = vec![-1; 8 * ELEMENTS];
+    let answer = inspect(&lot.coordinates, &lot.indices, DEPTH, &mut report);
+    (answer, report)
+}
+
+/// The time of `times` inspections of a lot.
+fn time(lot: &Lot, inspect: Inspect, report: &mut [i64], times: u32) -> Duration {
+    let start = Instant::now();
+    for _ in 0..times {
+        let answer =
+            inspect(black_box(&lot.coordinates), black_box(&lot.indices), black_box(DEPTH), report);
+        black_box(answer);
+        black_box(&mut *report);
+    }
+    start.elapsed()
+}
+
+/// How often a lot is inspected to fill some ten milliseconds.
+fn times_a_round(lot: &Lot, inspect: Inspect, report: &mut [i64]) -> u32 {
+    let once = time(lot, inspect, report, 3) / 3;
+    (Duration::from_millis(10).as_nanos() / once.as_nanos().max(1)).clamp(1, 10_000) as u32
+}
+
+/// Best time an element of each version, in microseconds; the versions take
+/// turns, so that a disturbance meets them alike.
+fn best(lot: &Lot, rounds: u32) -> [f64; 3] {
+    let mut report = vec![0; 8 * ELEMENTS];
+    let times = VERSIONS.map(|(_, inspect)| times_a_round(lot, inspect, &mut report));
+    let mut best = [f64::INFINITY; 3];
+    for _ in 0..rounds {
+        for (version, (_, inspect)) in VERSIONS.iter().enumerate() {
+            let took = time(lot, *inspect, &mut report, times[version]);
+            let an_element = took.as_secs_f64() * 1e6 / f64::from(times[version]) / ELEMENTS as f64;
+            best[version] = best[version].min(an_element);
+        }
+    }
+    best
+}
+
+/// The three reports, found equal; the lot's own figures.
+fn checked(lot: &Lot) -> Result<String, String> {
+    let (answer, report) = report_of(lot, library);
+    for (name, inspect) in VERSIONS {
+        let (other_answer, other) = report_of(lot, inspect);
+        if other_answer != answer || other != report || checksum(&other) != checksum(&report) {
+            return Err(format!("{}: the report of {name} differs", lot.name));
+        }
+    }
+    let opened: i64 = report.chunks_exact(8).map(|record| record[7]).sum();
+    let [_, valid, invalid, undecided, refused] = answer;
+    Ok(format!(
+        "valid {valid} invalid {invalid} undecided {undecided} refused {refused}, \
+         {:.1} cubes opened an element, checksum {:016x}",
+        opened as f64 / ELEMENTS as f64,
+        checksum(&report)
+    ))
+}
+
+fn main() -> Result<(), String> {
+    let rounds = match std::env::args().nth(1) {
+        None => 40,
+        Some(text) => text.parse().map_err(|_| format!("no number of rounds: {text}"))?,
+    };
+    let name = std::env::args().nth(2).unwrap_or_default();
+    let lots: Vec<Lot> = lots().into_iter().filter(|lot| lot.name.starts_with(&name)).collect();
+    println!("lots of {ELEMENTS} elements at depth {DEPTH}; the three reports are the same");
+    for lot in &lots {
+        println!("  {}: {}", lot.name, checked(lot)?);
+    }
+    println!("microseconds an element, best of {rounds} rounds");
+    println!(
+        "  {:26} {:>9} {:>9} {:>12} {:>12} {:>12}",
+        "lot", "library", "direct", "same method", "lib/direct", "lib/same"
+    );
+    for lot in &lots {
+        let [library, direct, same] = best(lot, rounds);
+        println!(
+            "  {:26} {library:9.3} {direct:9.3} {same:12.3} {:12.2} {:12.2}",
+            lot.name,
+            library / direct,
+            library / same
+        );
+    }
+    Ok(())
+}

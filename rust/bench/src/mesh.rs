@@ -1,0 +1,108 @@
+//! What both Rust versions share: the tests of a mesh and of its elements, and
+//! the eight words of a record.  An ordinary program, without proofs.
+
+pub type Record = [i64; 8];
+
+/// Number, valid, invalid, undecided, refused.
+pub type Answer = [u32; 5];
+
+fn refusal(coordinates: &[i32], indices: &[u32], depth: u32, report: &[i64]) -> u32 {
+    if depth > 3 {
+        1
+    } else if coordinates.len() % 3 != 0 || coordinates.len() > 3 * 5000 {
+        2
+    } else if indices.len() % 8 != 0 || indices.len() > 8 * 1000 {
+        3
+    } else if report.len() != indices.len() {
+        4
+    } else {
+        0
+    }
+}
+
+/// The eight points of an element, or the record that refuses it.
+fn points(coordinates: &[i32], element: &[u32]) -> Result<[[i64; 3]; 8], Record> {
+    let nodes = coordinates.len() / 3;
+    if let Some(place) = element.iter().position(|&index| index as usize >= nodes) {
+        return Err([5, place as i64 + 1, i64::from(element[place]), 0, 0, 0, 0, 0]);
+    }
+    let mut points = [[0; 3]; 8];
+    for (place, &index) in element.iter().enumerate() {
+        let node = &coordinates[3 * index as usize..][..3];
+        for axis in 0..3 {
+            if !(-4096..=4096).contains(&node[axis]) {
+                return Err([6, place as i64 + 1, axis as i64 + 1, 0, 0, 0, 0, 0]);
+            }
+            points[place][axis] = i64::from(node[axis]);
+        }
+    }
+    Ok(points)
+}
+
+/// Inspects a mesh, with a version's way to find the record of eight points.
+#[inline(always)]
+pub fn inspect(
+    coordinates: &[i32],
+    indices: &[u32],
+    depth: u32,
+    report: &mut [i64],
+    record: impl Fn(&[[i64; 3]; 8], u32) -> Record,
+) -> Answer {
+    let number = refusal(coordinates, indices, depth, report);
+    if number != 0 {
+        return [number, 0, 0, 0, 0];
+    }
+    let mut answer = [0; 5];
+    for (element, words) in indices.chunks_exact(8).zip(report.chunks_exact_mut(8)) {
+        let found = match points(coordinates, element) {
+            Ok(points) => record(&points, depth),
+            Err(refused) => refused,
+        };
+        answer[match found[0] {
+            0 => 1,
+            1 => 2,
+            2 => 3,
+            _ => 4,
+        }] += 1;
+        words.copy_from_slice(&found);
+    }
+    answer
+}
+
+/// The six-fold volume that three vectors span.
+#[inline(always)]
+pub fn determinant(u: [i64; 3], v: [i64; 3], w: [i64; 3]) -> i64 {
+    u[0] * (v[1] * w[2] - v[2] * w[1])
+        + u[1] * (v[2] * w[0] - v[0] * w[2])
+        + u[2] * (v[0] * w[1] - v[1] * w[0])
+}
+
+#[inline(always)]
+pub fn difference(from: [i64; 3], to: [i64; 3]) -> [i64; 3] {
+    [to[0] - from[0], to[1] - from[1], to[2] - from[2]]
+}
+
+#[inline(always)]
+pub fn sum(u: [i64; 3], v: [i64; 3]) -> [i64; 3] {
+    [u[0] + v[0], u[1] + v[1], u[2] + v[2]]
+}
+
+/// Corners 1 to 8 on the reference cube.
+pub const CORNERS: [[u32; 3]; 8] =
+    [[0, 0, 0], [1, 0, 0], [1, 1, 0], [0, 1, 0], [0, 0, 1], [1, 0, 1], [1, 1, 1], [0, 1, 1]];
+
+/// The record of a corner of some cube with J not above 0.
+pub fn invalid(level: u32, cube: [u32; 3], corner: usize, held: i64, opened: u32) -> Record {
+    let [a, b, c] = [0, 1, 2].map(|axis| i64::from(cube[axis] + CORNERS[corner][axis]));
+    [1, i64::from(level), a, b, c, corner as i64 + 1, held, i64::from(opened)]
+}
+
+pub fn valid(level: u32, opened: u32) -> Record {
+    [0, i64::from(level), 0, 0, 0, 0, 0, i64::from(opened)]
+}
+
+/// The record of the first coefficient not above 0 at the depth.
+pub fn undecided(depth: u32, cube: [u32; 3], number: usize, held: i64, opened: u32) -> Record {
+    let [a, b, c] = cube.map(i64::from);
+    [2, i64::from(depth), a, b, c, number as i64, held, i64::from(opened)]
+}

@@ -1,0 +1,253 @@
+//! The product's own method in ordinary Rust: twenty volumes, the table of 540
+//! read in full, coefficients in the order of their numbers, all eight children
+//! cut at once, and one pass of the search for every level.
+
+use crate::mesh::{
+    determinant, difference, invalid, sum, undecided, valid, Answer, Record, CORNERS,
+};
+
+/// 27 rows of 20: corners and edges (in quarters) to eight times the
+/// coefficients.
+static TABLE: [i64; 540] = table();
+
+/// "edges 1-2, 2-3, 3-4, 1-4, 1-5, 2-6, 3-7, 4-8, 5-6, 6-7, 7-8, 5-8", from 0.
+const EDGES: [[usize; 2]; 12] = [
+    [0, 1],
+    [1, 2],
+    [2, 3],
+    [0, 3],
+    [0, 4],
+    [1, 5],
+    [2, 6],
+    [3, 7],
+    [4, 5],
+    [5, 6],
+    [6, 7],
+    [4, 7],
+];
+
+/// "faces 1234, 1256, 2367, 3478, 1458, 5678", from 0.
+const FACES: [[usize; 4]; 6] =
+    [[0, 1, 2, 3], [0, 1, 4, 5], [1, 2, 5, 6], [2, 3, 6, 7], [0, 3, 4, 7], [4, 5, 6, 7]];
+
+const fn on_face(corner: usize, face: usize) -> bool {
+    let f = FACES[face];
+    corner == f[0] || corner == f[1] || corner == f[2] || corner == f[3]
+}
+
+/// "a corner row holds 8; an edge row 4 and twice -4; a face row four times 2
+/// and four times -6; the centre row twelve times 1 and eight times -5."
+const fn table() -> [i64; 540] {
+    let mut table = [0; 540];
+    let mut k = 0;
+    while k < 20 {
+        let is_corner = k < 8;
+        let mut n = 0;
+        while n < 27 {
+            let entry = if n < 8 {
+                if n == k {
+                    8
+                } else {
+                    0
+                }
+            } else if n < 20 {
+                let [a, b] = EDGES[n - 8];
+                if n == k {
+                    4
+                } else if is_corner && (k == a || k == b) {
+                    -4
+                } else {
+                    0
+                }
+            } else if n < 26 {
+                if is_corner {
+                    if on_face(k, n - 20) {
+                        -6
+                    } else {
+                        0
+                    }
+                } else {
+                    let [a, b] = EDGES[k - 8];
+                    if on_face(a, n - 20) && on_face(b, n - 20) {
+                        2
+                    } else {
+                        0
+                    }
+                }
+            } else if is_corner {
+                -5
+            } else {
+                1
+            };
+            table[20 * n + k] = entry;
+            n += 1;
+        }
+        k += 1;
+    }
+    table
+}
+
+/// The nine rows of three coefficients in xi, eta and zeta, by their numbers
+/// from 0.
+#[rustfmt::skip]
+static ROWS: [[[usize; 3]; 9]; 3] = [
+    [[0, 8, 1], [12, 21, 13], [4, 16, 5], [11, 20, 9], [24, 26, 22], [19, 25, 17],
+     [3, 10, 2], [15, 23, 14], [7, 18, 6]],
+    [[0, 11, 3], [12, 24, 15], [4, 19, 7], [8, 20, 10], [21, 26, 23], [16, 25, 18],
+     [1, 9, 2], [13, 22, 14], [5, 17, 6]],
+    [[0, 12, 4], [11, 24, 19], [3, 15, 7], [8, 21, 16], [20, 26, 25], [10, 23, 18],
+     [1, 13, 5], [9, 22, 17], [2, 14, 6]],
+];
+
+type Net = [i64; 27];
+
+pub fn inspect(coordinates: &[i32], indices: &[u32], depth: u32, report: &mut [i64]) -> Answer {
+    crate::mesh::inspect(coordinates, indices, depth, report, record)
+}
+
+/// J at corner a, whose neighbours are b, c and d; nodes go by their numbers.
+#[inline(always)]
+fn at_corner(n: &[[i64; 3]; 8], a: usize, b: usize, c: usize, d: usize) -> i64 {
+    let to = |b: usize| difference(n[a - 1], n[b - 1]);
+    determinant(to(b), to(c), to(d))
+}
+
+/// Four times J at the middle of edge a-b: the tetrahedron's other vertices are
+/// the middles of c and d and of e and f.
+#[inline(always)]
+fn at_edge(n: &[[i64; 3]; 8], [a, b]: [usize; 2], [c, d]: [usize; 2], [e, f]: [usize; 2]) -> i64 {
+    let to = |b: usize| difference(n[a - 1], n[b - 1]);
+    determinant(to(b), sum(to(c), to(d)), sum(to(e), to(f)))
+}
+
+fn volumes(n: &[[i64; 3]; 8]) -> [i64; 20] {
+    [
+        at_corner(n, 1, 2, 4, 5),
+        at_corner(n, 2, 3, 1, 6),
+        at_corner(n, 3, 4, 2, 7),
+        at_corner(n, 4, 1, 3, 8),
+        at_corner(n, 5, 8, 6, 1),
+        at_corner(n, 6, 5, 7, 2),
+        at_corner(n, 7, 6, 8, 3),
+        at_corner(n, 8, 7, 5, 4),
+        at_edge(n, [1, 2], [3, 4], [5, 6]),
+        at_edge(n, [2, 3], [1, 4], [6, 7]),
+        at_edge(n, [3, 4], [1, 2], [7, 8]),
+        at_edge(n, [1, 4], [5, 8], [2, 3]),
+        at_edge(n, [1, 5], [2, 6], [4, 8]),
+        at_edge(n, [2, 6], [3, 7], [1, 5]),
+        at_edge(n, [3, 7], [4, 8], [2, 6]),
+        at_edge(n, [4, 8], [1, 5], [3, 7]),
+        at_edge(n, [5, 6], [1, 2], [7, 8]),
+        at_edge(n, [6, 7], [2, 3], [5, 8]),
+        at_edge(n, [7, 8], [3, 4], [5, 6]),
+        at_edge(n, [5, 8], [6, 7], [1, 4]),
+    ]
+}
+
+/// The 27 coefficients, times 8: every row of the table against the volumes.
+fn coefficients(n: &[[i64; 3]; 8]) -> Net {
+    let volumes = volumes(n);
+    let mut net = [0; 27];
+    for (coefficient, row) in net.iter_mut().zip(TABLE.chunks_exact(20)) {
+        *coefficient = row.iter().zip(&volumes).map(|(entry, volume)| entry * volume).sum();
+    }
+    net
+}
+
+/// The lowest number of a coefficient not above 0; 0 where there is none.
+fn lowest(net: &Net) -> usize {
+    net.iter().position(|&x| x <= 0).map_or(0, |at| at + 1)
+}
+
+/// One half in a direction, four times larger.
+fn halve(net: &Net, direction: usize, upper: bool, out: &mut Net) {
+    for &[x, y, z] in &ROWS[direction] {
+        let (p, q, r) = (net[x], net[y], net[z]);
+        let middle = p + 2 * q + r;
+        let half = if upper { [middle, 2 * (q + r), 4 * r] } else { [4 * p, 2 * (p + q), middle] };
+        [out[x], out[y], out[z]] = half;
+    }
+}
+
+/// All eight children in corner order.
+fn cut(net: &Net) -> [Net; 8] {
+    let mut halves = [[0; 27]; 2];
+    let mut quarters = [[0; 27]; 4];
+    let mut children = [[0; 27]; 8];
+    for (k, half) in halves.iter_mut().enumerate() {
+        halve(net, 0, CORNERS[k][0] == 1, half);
+    }
+    for (k, quarter) in quarters.iter_mut().enumerate() {
+        halve(&halves[CORNERS[k][0] as usize], 1, CORNERS[k][1] == 1, quarter);
+    }
+    for (k, child) in children.iter_mut().enumerate() {
+        halve(&quarters[k % 4], 2, CORNERS[k][2] == 1, child);
+    }
+    children
+}
+
+/// What a pass has found.
+enum Found {
+    Nothing,
+    Coefficient { cube: [u32; 3], number: usize, held: i64 },
+    Corner { cube: [u32; 3], corner: usize, held: i64 },
+}
+
+struct Pass {
+    opened: u32,
+    found: Found,
+}
+
+impl Pass {
+    fn open(&mut self, net: &Net, cube: [u32; 3]) {
+        self.opened += 1;
+        let number = lowest(net);
+        if number == 0 {
+            return;
+        }
+        let held = net[number - 1];
+        if number <= 8 {
+            self.found = Found::Corner { cube, corner: number - 1, held };
+        } else if matches!(self.found, Found::Nothing) {
+            self.found = Found::Coefficient { cube, number, held };
+        }
+    }
+
+    fn visit(&mut self, net: &Net, cube: [u32; 3], left: u32) {
+        if matches!(self.found, Found::Corner { .. }) {
+            return;
+        }
+        if left == 0 {
+            return self.open(net, cube);
+        }
+        if lowest(net) == 0 {
+            return;
+        }
+        for (child, place) in cut(net).iter().zip(CORNERS) {
+            let at = [0, 1, 2].map(|axis| 2 * cube[axis] + place[axis]);
+            self.visit(child, at, left - 1);
+        }
+    }
+}
+
+fn record(n: &[[i64; 3]; 8], depth: u32) -> Record {
+    let net = coefficients(n);
+    let mut opened = 0;
+    let mut level = 0;
+    loop {
+        let mut pass = Pass { opened, found: Found::Nothing };
+        pass.visit(&net, [0; 3], level);
+        opened = pass.opened;
+        match pass.found {
+            Found::Nothing => return valid(level, opened),
+            Found::Corner { cube, corner, held } => {
+                return invalid(level, cube, corner, held, opened);
+            }
+            Found::Coefficient { cube, number, held } if level == depth => {
+                return undecided(level, cube, number, held, opened);
+            }
+            Found::Coefficient { .. } => level += 1,
+        }
+    }
+}

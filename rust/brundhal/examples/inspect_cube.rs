@@ -1,0 +1,31 @@
+//! Inspects the unit cube at depth 3 and prints its record, the counts and the
+//! stamp.
+
+#![deny(warnings)]
+
+fn main() {
+    // Three coordinates a node; eight indices an element, in the order of the
+    // reference cube's corners; eight report words an element.
+    #[rustfmt::skip]
+    let coordinates = [
+        0, 0, 0,  1, 0, 0,  1, 1, 0,  0, 1, 0,
+        0, 0, 1,  1, 0, 1,  1, 1, 1,  0, 1, 1,
+    ];
+    let indices = [0, 1, 2, 3, 4, 5, 6, 7];
+    let mut report = [0; brundhal::RECORD_WORDS];
+
+    let answer = brundhal::inspect(&coordinates, &indices, 3, &mut report);
+    if answer.number != 0 {
+        eprintln!("refused {}", answer.number);
+        std::process::exit(1);
+    }
+    println!("record {}", report.map(|word| word.to_string()).join(" "));
+    println!(
+        "valid {} invalid {} undecided {} refused {}",
+        answer.valid, answer.invalid, answer.undecided, answer.refused
+    );
+    match brundhal::stamp(answer) {
+        brundhal::Stamp::Sound => println!("stamp sound"),
+        brundhal::Stamp::Faulty => println!("stamp faulty"),
+    }
+}

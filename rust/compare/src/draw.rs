@@ -1,0 +1,373 @@
+//! Random elements, meshes and addresses, each from a seed.
+
+use crate::program::IN_ORDER;
+use crate::question::Question;
+use second::specimens::{cube, rings_exchanged, twisted, Points, Shaker};
+
+/// The kinds of random elements.
+#[derive(Clone, Copy, Debug, PartialEq, Eq, PartialOrd, Ord)]
+pub enum Kind {
+    /// Every coordinate uniform in the range.
+    Uniform,
+    /// Cubes of any size with shaken nodes.
+    Shaken,
+    /// Thin and flat boxes, a little shaken.
+    Thin,
+    /// Small coordinates, where exact zeros are common.
+    Small,
+    /// Eight positive corners and a coefficient not above 0.
+    Hollow,
+    /// Undecided at depth 3.
+    Undecided,
+    /// One of the others, mirrored, with its rings exchanged, or both.
+    Mirrored,
+    /// At the ends of the range, where the numbers are largest.
+    Extreme,
+}
+
+pub const KINDS: [Kind; 8] = [
+    Kind::Uniform,
+    Kind::Shaken,
+    Kind::Thin,
+    Kind::Small,
+    Kind::Hollow,
+    Kind::Undecided,
+    Kind::Mirrored,
+    Kind::Extreme,
+];
+
+const RANGE: i64 = 4096;
+
+pub fn narrow(points: &Points) -> [i32; 24] {
+    points.map(|x| x.clamp(-RANGE, RANGE) as i32)
+}
+
+/// An element of this kind; every coordinate is usable.
+pub fn element(shaker: &mut Shaker, kind: Kind) -> [i32; 24] {
+    let points = match kind {
+        Kind::Uniform => [0; 24].map(|_: i64| shaker.between(-RANGE, RANGE)),
+        Kind::Shaken => shaken(shaker),
+        Kind::Thin => thin(shaker),
+        Kind::Small => small(shaker),
+        Kind::Hollow => hollow(shaker),
+        Kind::Undecided => undecided(shaker),
+        Kind::Mirrored => mirrored(shaker),
+        Kind::Extreme => extreme(shaker),
+    };
+    narrow(&points)
+}
+
+fn shake(shaker: &mut Shaker, points: &mut Points, by: [i64; 3]) {
+    for (place, x) in points.iter_mut().enumerate() {
+        *x += shaker.between(-by[place % 3], by[place % 3]);
+    }
+}
+
+/// Turned three times in four: the same element seen from another side.
+fn often_turned(shaker: &mut Shaker, points: Points) -> Points {
+    if shaker.between(0, 3) == 0 {
+        points
+    } else {
+        shaker.turned(&points)
+    }
+}
+
+fn clamped(points: Points) -> Points {
+    points.map(|x| x.clamp(-RANGE, RANGE))
+}
+
+fn shaken(shaker: &mut Shaker) -> Points {
+    let most = [4, 40, 400, 2 * RANGE][shaker.between(0, 3) as usize];
+    let side = shaker.between(1, most);
+    let low = shaker.between(-RANGE, RANGE - side);
+    let mut points = cube(low, low + side);
+    let by = shaker.between(0, side * 6 / 10);
+    shake(shaker, &mut points, [by; 3]);
+    often_turned(shaker, clamped(points))
+}
+
+/// A box with one or two of its sides 0 to 4 units long.
+fn thin(shaker: &mut Shaker) -> Points {
+    let thin_axes = [1, 1, 2][shaker.between(0, 2) as usize];
+    let mut sides = [0; 3].map(|_: i64| shaker.between(5, 2 * RANGE));
+    for side in &mut sides[..thin_axes] {
+        *side = shaker.between(0, 4);
+    }
+    sides.rotate_right(shaker.between(0, 2) as usize);
+    let mut points = cube(0, 1);
+    for (place, x) in points.iter_mut().enumerate() {
+        *x = *x * sides[place % 3] - sides[place % 3] / 2;
+    }
+    let share = shaker.between(0, 60);
+    let by = sides.map(|side| (side * share / 100).max(i64::from(share > 20)));
+    shake(shaker, &mut points, by);
+    often_turned(shaker, clamped(points))
+}
+
+fn small(shaker: &mut Shaker) -> Points {
+    let most = shaker.between(1, 3);
+    let (mut points, by) = match shaker.between(0, 3) {
+        0 => ([0; 24], most),
+        1 => (cube(0, most), 1),
+        2 => (cube(-1, most), most),
+        _ => return shaker.plain_twist(),
+    };
+    shake(shaker, &mut points, [by; 3]);
+    points
+}
+
+fn strained(shaker: &mut Shaker) -> Points {
+    let points = match shaker.between(0, 3) {
+        0 => shaken(shaker),
+        1 => shaker.twisted(),
+        2 => thin(shaker),
+        _ => shaker.strained(),
+    };
+    let points = clamped(points);
+    often_turned(shaker, points)
+}
+
+/// Drawn until the second program finds it undecided at depth 0, which means
+/// eight positive corners and a coefficient not above 0.
+fn hollow(shaker: &mut Shaker) -> Points {
+    for _ in 0..2000 {
+        let points = strained(shaker);
+        if second::record(&points, 0)[0] == 2 {
+            return points;
+        }
+    }
+    twisted(1, 1, 1, 1)
+}
+
+/// The points under a linear map with a positive determinant, which multiplies
+/// J by that determinant everywhere and so keeps every sign.
+fn mapped(shaker: &mut Shaker, points: &Points) -> Points {
+    let mut rows = [[1, 0, 0], [0, 1, 0], [0, 0, 1]];
+    for _ in 0..shaker.between(0, 4) {
+        // a multiple of one row added to another, or one row stretched
+        let (to, from) = (shaker.between(0, 2) as usize, shaker.between(0, 2) as usize);
+        if to == from {
+            rows[to] = rows[to].map(|x| 2 * x);
+        } else {
+            let by = shaker.between(-2, 2);
+            rows[to] = [0, 1, 2].map(|i| rows[to][i] + by * rows[from][i]);
+        }
+    }
+    let mut image = [0; 24];
+    for (node, into) in points.chunks_exact(3).zip(image.chunks_exact_mut(3)) {
+        for axis in 0..3 {
+            into[axis] = (0..3).map(|i| rows[axis][i] * node[i]).sum();
+        }
+    }
+    image
+}
+
+/// A ring turned by about a half against its square, as in case F, so that J
+/// has a double zero, or nearly, off the grid; sheared, stretched, turned and
+/// made larger.
+fn folded(shaker: &mut Shaker) -> Points {
+    let half = shaker.between(1, 6);
+    let reach = shaker.between(1, 12);
+    let [along, across] = [0; 2].map(|_: i64| shaker.between(-1, 1) * shaker.between(0, 1));
+    let height = shaker.between(1, 3);
+    let mut points = twisted(half, height, reach + along, reach + across);
+    points = mapped(shaker, &points);
+    let most = points.iter().map(|x| x.abs()).max().unwrap_or(1).max(1);
+    let times = shaker.between(1, (RANGE / most).max(1));
+    points = points.map(|x| x * times);
+    let by = if shaker.between(0, 1) == 0 { 0 } else { times / 40 };
+    shake(shaker, &mut points, [by; 3]);
+    points = clamped(points);
+    often_turned(shaker, points)
+}
+
+/// Drawn until the second program finds it undecided at depth 3.
+fn undecided(shaker: &mut Shaker) -> Points {
+    for _ in 0..2000 {
+        let points = folded(shaker);
+        if (0..=3).all(|depth| second::record(&points, depth)[0] == 2) {
+            return points;
+        }
+    }
+    twisted(1, 1, 2, 2)
+}
+
+fn mirrored(shaker: &mut Shaker) -> Points {
+    let mut points = match shaker.between(0, 3) {
+        0 => shaken(shaker),
+        1 => thin(shaker),
+        2 => folded(shaker),
+        _ => strained(shaker),
+    };
+    let how = shaker.between(0, 4);
+    if how != 0 {
+        let axis = shaker.between(0, 2) as usize;
+        points.iter_mut().skip(axis).step_by(3).for_each(|x| *x = -*x);
+    }
+    // both at once give back the sign of J
+    if how < 3 {
+        points = rings_exchanged(&points);
+    }
+    points
+}
+
+fn extreme(shaker: &mut Shaker) -> Points {
+    let mut points = match shaker.between(0, 3) {
+        // every coordinate at an end of the range
+        0 => [0; 24].map(|_: i64| [-RANGE, RANGE][shaker.between(0, 1) as usize]),
+        1 => shaker.wide(),
+        // case F and its like, as large as they can be
+        2 => twisted(RANGE / 2, RANGE, RANGE, RANGE),
+        _ => cube(-RANGE, RANGE),
+    };
+    if shaker.between(0, 1) == 0 {
+        let by = [1, 100, 2000][shaker.between(0, 2) as usize];
+        shake(shaker, &mut points, [by; 3]);
+    }
+    often_turned(shaker, clamped(points))
+}
+
+// ------------------------------------------------------------------ meshes --
+
+fn one_of<T: Copy>(shaker: &mut Shaker, of: &[T]) -> T {
+    of[shaker.between(0, of.len() as i64 - 1) as usize]
+}
+
+/// True once in `times`.
+fn once_in(shaker: &mut Shaker, times: i64) -> bool {
+    shaker.between(1, times) == 1
+}
+
+/// Coordinates at the ends of the range, just past them, and far past them.
+const EDGES: [i32; 8] = [-4096, 4096, -4097, 4097, i32::MIN, i32::MAX, i32::MIN + 1, 65_536];
+
+fn nodes(shaker: &mut Shaker, count: usize) -> Vec<i32> {
+    let mut coordinates = Vec::with_capacity(3 * count + 24);
+    // in a large mesh eight points serve over and over: 5,000 nodes in no time
+    let serve = if count > 200 { 8 } else { 1 };
+    while coordinates.len() < 3 * count {
+        let kind = match shaker.between(0, 9) {
+            0 => Kind::Hollow,
+            1 => Kind::Small,
+            2 => Kind::Thin,
+            3 => Kind::Mirrored,
+            _ => Kind::Shaken,
+        };
+        let points = element(shaker, kind);
+        (0..serve).for_each(|_| coordinates.extend(points));
+    }
+    coordinates.truncate(3 * count);
+    if once_in(shaker, 3) {
+        for _ in 0..shaker.between(1, 6) {
+            let length = coordinates.len() as i64;
+            if length > 0 {
+                let at = shaker.between(0, length - 1) as usize;
+                coordinates[at] = one_of(shaker, &EDGES);
+            }
+        }
+    }
+    coordinates
+}
+
+/// An index at, just past or far past the node count; three times the last two
+/// passes 32 bits and comes out small again.
+fn bad_index(shaker: &mut Shaker, nodes: usize) -> u32 {
+    let nodes = nodes as u32;
+    let far = [u32::MAX, 1 << 31, u32::MAX / 3, u32::MAX / 3 + 1, 0x5555_5556];
+    match shaker.between(0, 3) {
+        0 => nodes,
+        1 => nodes + 1,
+        2 => nodes + shaker.between(0, 100_000) as u32,
+        _ => one_of(shaker, &far),
+    }
+}
+
+/// Eight indices: eight nodes in a row, often; any nodes; with bad ones.
+fn element_indices(shaker: &mut Shaker, nodes: usize) -> [u32; 8] {
+    let blocks = nodes as i64 / 8;
+    let mut indices = if blocks > 0 && !once_in(shaker, 6) {
+        let block = shaker.between(0, blocks - 1) as u32;
+        IN_ORDER.map(|place| 8 * block + place)
+    } else {
+        [0; 8].map(|_| shaker.between(0, nodes.max(1) as i64 - 1) as u32)
+    };
+    if once_in(shaker, 8) {
+        for _ in 0..shaker.between(1, 3) {
+            indices[shaker.between(0, 7) as usize] = bad_index(shaker, nodes);
+        }
+    }
+    indices
+}
+
+/// A length that is often right, else a little off or nothing.
+fn length(shaker: &mut Shaker, right: usize) -> usize {
+    if !once_in(shaker, 12) {
+        return right;
+    }
+    let off = one_of(shaker, &[-8, -3, -2, -1, 1, 2, 3, 7, 8]);
+    right.saturating_add_signed(off)
+}
+
+/// A random mesh, with anything wrong in it, or nothing.
+pub fn mesh(shaker: &mut Shaker) -> Question {
+    let node_count = match shaker.between(0, 39) {
+        0 => 0,
+        1 => one_of(shaker, &[4999, 5000]),
+        2 => one_of(shaker, &[5001, 5002, 10_000]),
+        3 => shaker.between(1, 9) as usize,
+        _ => 8 * shaker.between(1, 6) as usize + shaker.between(0, 2) as usize,
+    };
+    let mut coordinates = nodes(shaker, node_count);
+    let right = coordinates.len();
+    coordinates.resize(length(shaker, right), 7);
+    let (element_count, large) = match shaker.between(0, 59) {
+        0 => (0, false),
+        1 => (one_of(shaker, &[999, 1000]), true),
+        2 => (one_of(shaker, &[1001, 1002, 2000]), true),
+        _ => (shaker.between(1, 7) as usize, false),
+    };
+    let node_count = coordinates.len() / 3;
+    let mut indices: Vec<u32> =
+        (0..element_count).flat_map(|_| element_indices(shaker, node_count)).collect();
+    let right = indices.len();
+    indices.resize(length(shaker, right), 0);
+    let space = length(shaker, indices.len());
+    let depth = match shaker.between(0, 19) {
+        0 => one_of(shaker, &[4, 5, 256, 1 << 16, 1 << 31, u32::MAX]),
+        _ if large => shaker.between(0, 1) as u32,
+        _ => shaker.between(0, 3) as u32,
+    };
+    Question::Inspect { depth, space, coordinates, indices }
+}
+
+/// Eight points with some coordinates at and past the ends of the range, at
+/// any depth.
+pub fn bounds(shaker: &mut Shaker) -> Question {
+    let mut points = element(shaker, Kind::Shaken);
+    for _ in 0..shaker.between(0, 2) {
+        points[shaker.between(0, 23) as usize] = one_of(shaker, &EDGES);
+    }
+    let depth = one_of(shaker, &[0, 1, 2, 3, 0, 1, 2, 4, 256, u32::MAX]);
+    Question::Bounds { depth, points }
+}
+
+// --------------------------------------------------------------- addresses --
+
+/// Any 32-bit number: small, near a power of two, at the end, or whatever.
+fn any_number(shaker: &mut Shaker) -> u32 {
+    let power = 1u32 << shaker.between(0, 31);
+    match shaker.between(0, 5) {
+        0 => shaker.between(0, 9) as u32,
+        1 => power,
+        2 => power - 1,
+        3 => u32::MAX - shaker.between(0, 3) as u32,
+        4 => shaker.between(0, 3) as u32,
+        _ => shaker.draw() as u32,
+    }
+}
+
+pub fn moves(shaker: &mut Shaker) -> [Question; 3] {
+    let address = [0; 4].map(|_: u32| any_number(shaker));
+    let n = any_number(shaker);
+    [Question::Child { address, n }, Question::Corner { address, n }, Question::Parent { address }]
+}

@@ -1,0 +1,16 @@
+//! The built library and the second program, side by side.
+//!
+//! Both are asked the same questions, and every word of every answer is
+//! compared: numbers, counts, stamps, all report words, bounds, address moves.
+//! What 01 says over depths is tested on each answer as well.  A difference
+//! carries its whole question, in one line that `compare again` takes.
+
+#![deny(warnings)]
+#![forbid(unsafe_code)]
+
+pub mod cases;
+pub mod check;
+pub mod draw;
+pub mod program;
+pub mod question;
+pub mod run;

@@ -1,0 +1,50 @@
+//! Runs the built library beside the second program.
+//!
+//! `compare SEED COUNT`: the whole run, with COUNT random elements.
+//! `compare again`: the questions on standard input, one a line, as a
+//! difference prints them; the answer of each is printed.
+
+#![deny(warnings)]
+
+use compare::check::ask;
+use compare::program::{Product, Second};
+use compare::question::Question;
+use compare::run::{run, Pair, Plan};
+use std::io;
+use std::process::ExitCode;
+
+fn again() -> Result<(), String> {
+    for line in io::stdin().lines() {
+        let line = line.map_err(|error| error.to_string())?;
+        let question: Question = line.parse()?;
+        let words = ask(&Product, &Second, &question).map_err(|found| found.to_string())?;
+        println!("both answer {words:?}");
+    }
+    Ok(())
+}
+
+fn whole(seed: &str, count: &str) -> Result<(), String> {
+    let seed = seed.parse().map_err(|_| format!("no seed: {seed}"))?;
+    let count = count.parse().map_err(|_| format!("no count: {count}"))?;
+    let pair = Pair { first: &Product, second: &Second };
+    run(pair, Plan::of(seed, count), |line| println!("{line}")).map_err(|found| found.to_string())
+}
+
+fn main() -> ExitCode {
+    let arguments: Vec<String> = std::env::args().skip(1).collect();
+    let done = match &arguments.iter().map(String::as_str).collect::<Vec<_>>()[..] {
+        ["again"] => again(),
+        [seed, count] => whole(seed, count),
+        _ => Err("use: compare SEED COUNT, or: compare again".to_string()),
+    };
+    match done {
+        Ok(()) => {
+            println!("no difference");
+            ExitCode::SUCCESS
+        }
+        Err(what) => {
+            eprintln!("{what}");
+            ExitCode::FAILURE
+        }
+    }
+}

@@ -1,0 +1,135 @@
+//! What the two programs are asked, as data that can be printed and read back.
+
+use std::fmt;
+use std::str::FromStr;
+
+/// A question to both programs.
+#[derive(Clone, Debug, PartialEq, Eq)]
+pub enum Question {
+    /// A mesh at one depth, with report space of `space` words.
+    Inspect {
+        depth: u32,
+        space: usize,
+        coordinates: Vec<i32>,
+        indices: Vec<u32>,
+    },
+    /// Eight points, all in range, at every depth from 0 to `depth`: the
+    /// inspection of the mesh of this one element, and the bounds.
+    Element {
+        depth: u32,
+        points: [i32; 24],
+    },
+    /// The bounds of any eight points at one depth.
+    Bounds {
+        depth: u32,
+        points: [i32; 24],
+    },
+    /// Moves of an address: level, a, b, c; and the number n.
+    Child {
+        address: [u32; 4],
+        n: u32,
+    },
+    Corner {
+        address: [u32; 4],
+        n: u32,
+    },
+    Parent {
+        address: [u32; 4],
+    },
+    /// The stamp of an inspection's answer: number and four counts.
+    Stamp {
+        answer: [u32; 5],
+    },
+}
+
+fn put<T: fmt::Display>(f: &mut fmt::Formatter<'_>, numbers: &[T]) -> fmt::Result {
+    numbers.iter().try_for_each(|number| write!(f, " {number}"))
+}
+
+/// One line: a word for the service, then numbers.  A mesh is its depth, its
+/// report space, and each run with its length before it.
+impl fmt::Display for Question {
+    fn fmt(&self, f: &mut fmt::Formatter<'_>) -> fmt::Result {
+        match self {
+            Question::Inspect { depth, space, coordinates, indices } => {
+                write!(f, "inspect {depth} {space} {}", coordinates.len())?;
+                put(f, coordinates)?;
+                write!(f, " {}", indices.len())?;
+                put(f, indices)
+            }
+            Question::Element { depth, points } => {
+                write!(f, "element {depth}")?;
+                put(f, points)
+            }
+            Question::Bounds { depth, points } => {
+                write!(f, "bounds {depth}")?;
+                put(f, points)
+            }
+            Question::Child { address, n } => {
+                write!(f, "child {n}")?;
+                put(f, address)
+            }
+            Question::Corner { address, n } => {
+                write!(f, "corner {n}")?;
+                put(f, address)
+            }
+            Question::Parent { address } => {
+                write!(f, "parent")?;
+                put(f, address)
+            }
+            Question::Stamp { answer } => {
+                write!(f, "stamp")?;
+                put(f, answer)
+            }
+        }
+    }
+}
+
+/// The numbers of a line, taken from its front.
+struct Numbers<'a>(std::str::SplitWhitespace<'a>);
+
+impl Numbers<'_> {
+    fn one<T: FromStr>(&mut self) -> Option<T> {
+        self.0.next()?.parse().ok()
+    }
+
+    fn array<T: FromStr + Copy + Default, const N: usize>(&mut self) -> Option<[T; N]> {
+        let mut array = [T::default(); N];
+        for place in array.iter_mut() {
+            *place = self.one()?;
+        }
+        Some(array)
+    }
+
+    fn run<T: FromStr>(&mut self) -> Option<Vec<T>> {
+        let length: usize = self.one()?;
+        (0..length).map(|_| self.one()).collect()
+    }
+
+    fn question(&mut self) -> Option<Question> {
+        let question = match self.0.next()? {
+            "inspect" => Question::Inspect {
+                depth: self.one()?,
+                space: self.one()?,
+                coordinates: self.run()?,
+                indices: self.run()?,
+            },
+            "element" => Question::Element { depth: self.one()?, points: self.array()? },
+            "bounds" => Question::Bounds { depth: self.one()?, points: self.array()? },
+            "child" => Question::Child { n: self.one()?, address: self.array()? },
+            "corner" => Question::Corner { n: self.one()?, address: self.array()? },
+            "parent" => Question::Parent { address: self.array()? },
+            "stamp" => Question::Stamp { answer: self.array()? },
+            _ => return None,
+        };
+        self.0.next().is_none().then_some(question)
+    }
+}
+
+impl FromStr for Question {
+    type Err = String;
+
+    fn from_str(line: &str) -> Result<Question, String> {
+        Numbers(line.split_whitespace()).question().ok_or_else(|| format!("no question: {line}"))
+    }
+}

@@ -1,0 +1,319 @@
+//! The whole side-by-side run.
+
+use crate::cases::{cases, figures, rounded};
+use crate::check::{ask, last_record, mesh_over_depths, Difference};
+use crate::draw::{self, Kind, KINDS};
+use crate::program::{Program, IN_ORDER};
+use crate::question::Question;
+use second::specimens::Shaker;
+use std::collections::BTreeMap;
+use std::fmt::Write;
+use std::sync::atomic::{AtomicUsize, Ordering};
+use std::sync::Mutex;
+use std::time::Instant;
+
+/// How much is asked.
+#[derive(Clone, Copy, Debug)]
+pub struct Plan {
+    pub seed: u64,
+    pub elements: usize,
+    pub meshes: usize,
+    pub moves: usize,
+}
+
+impl Plan {
+    /// Meshes and moves in proportion to a number of elements.
+    pub fn of(seed: u64, elements: usize) -> Plan {
+        Plan { seed, elements, meshes: elements / 50, moves: elements }
+    }
+}
+
+/// The two programs that are run side by side.
+#[derive(Clone, Copy)]
+pub struct Pair<'a> {
+    pub first: &'a dyn Program,
+    pub second: &'a dyn Program,
+}
+
+impl Pair<'_> {
+    fn ask(self, question: &Question) -> Result<Vec<i64>, Difference> {
+        ask(self.first, self.second, question)
+    }
+}
+
+/// What was met, and how often.
+type Tally = BTreeMap<String, u64>;
+
+fn count(tally: &mut Tally, what: String) {
+    *tally.entry(what).or_insert(0) += 1;
+}
+
+/// Jobs 0, 1, .. on two threads, until one finds a difference.
+fn on_two_threads(
+    jobs: usize,
+    job: impl Fn(usize, &mut Tally) -> Result<(), Difference> + Sync,
+) -> Result<Tally, Difference> {
+    let next = AtomicUsize::new(0);
+    let found: Mutex<Option<Difference>> = Mutex::new(None);
+    let whole: Mutex<Tally> = Mutex::new(Tally::new());
+    let work = || {
+        let mut tally = Tally::new();
+        loop {
+            let turn = next.fetch_add(1, Ordering::Relaxed);
+            if turn >= jobs {
+                break;
+            }
+            if let Err(difference) = job(turn, &mut tally) {
+                next.store(jobs, Ordering::Relaxed);
+                *found.lock().expect("no thread panics") = Some(difference);
+                break;
+            }
+        }
+        let mut whole = whole.lock().expect("no thread panics");
+        for (what, times) in tally {
+            *whole.entry(what).or_insert(0) += times;
+        }
+    };
+    std::thread::scope(|scope| {
+        let other = scope.spawn(work);
+        work();
+        other.join().expect("no thread panics");
+    });
+    match found.into_inner().expect("no thread panics") {
+        Some(difference) => Err(difference),
+        None => Ok(whole.into_inner().expect("no thread panics")),
+    }
+}
+
+/// A generator for one job: its draws do not depend on the other jobs.
+fn shaker_for(seed: u64, part: u64, turn: usize) -> Shaker {
+    let mixed = seed
+        .wrapping_mul(0x9E37_79B9_7F4A_7C15)
+        .wrapping_add(part << 56)
+        .wrapping_add((turn as u64 + 1).wrapping_mul(0xD134_2543_DE82_EF95));
+    Shaker::new(mixed ^ (mixed >> 31))
+}
+
+// ------------------------------------------------------------------- parts --
+
+/// Fails with a question whose answer is not the one that 01 prints.
+fn not_as_printed(question: &Question, what: String) -> Result<(), Difference> {
+    Err(Difference::new(question, what))
+}
+
+/// The cases of 01 at every depth, against the record that 01 prints too.
+fn worked_cases(pair: Pair) -> Result<String, Difference> {
+    for case in cases() {
+        for depth in 0..=3 {
+            let question = case.question(depth);
+            let words = pair.ask(&question)?;
+            let report: Vec<i64> = words[14..22].to_vec();
+            let record = case.records.iter().find(|(depths, _)| depths.contains(&depth));
+            if let Some((_, record)) = record.filter(|(_, record)| report != record) {
+                let what = format!("case {}: {report:?}, in 01 {record:?}", case.name);
+                not_as_printed(&question, what)?;
+            }
+            pair.ask(&Question::Bounds { depth, points: case.points })?;
+        }
+        if case.is_whole() {
+            pair.ask(&Question::Element { depth: 3, points: case.points })?;
+        }
+        if let Some((depth, low, high)) = case.bounds {
+            let question = Question::Bounds { depth, points: case.points };
+            let words = pair.ask(&question)?;
+            if words != [0, low, high] {
+                let what = format!("case {}: {words:?}, in 01 {low} and {high}", case.name);
+                not_as_printed(&question, what)?;
+            }
+        }
+    }
+    Ok("A to I and the cube from -4,096 to 4,096, at depths 0 to 3".to_string())
+}
+
+fn verdict(record: &[i64; 8]) -> String {
+    match record[0] {
+        0 => format!("valid at level {}", record[1]),
+        1 => format!("invalid at level {}", record[1]),
+        2 => format!("undecided at depth {}", record[1]),
+        _ => format!("refused with {}", record[0]),
+    }
+}
+
+/// The paper's figures, rounded at several scales.  01: "run and noted, no
+/// verdict is demanded."
+fn paper_figures(pair: Pair) -> Result<String, Difference> {
+    let mut lines = String::from("verdicts at depth 3 (units a figure unit, record)");
+    for figure in figures() {
+        for scale in figure.scales {
+            let points = rounded(&figure, scale);
+            let words = pair.ask(&Question::Element { depth: 3, points })?;
+            let record = last_record(&words);
+            let _ = write!(
+                lines,
+                "\n    {} times {scale}: {}, {record:?}",
+                figure.name,
+                verdict(&record)
+            );
+        }
+    }
+    Ok(lines)
+}
+
+/// "Lengths no multiple, one too many", depths past the largest: all of them
+/// against each other, so that the order of 1 to 4 shows.
+fn refusals(pair: Pair) -> Result<String, Difference> {
+    let coordinate_lengths = [0, 1, 2, 3, 23, 24, 25, 15_000, 15_001, 15_003];
+    let index_lengths = [0, 1, 7, 8, 9, 16, 8000, 8001, 8008];
+    let depths = [0, 1, 2, 3, 4, 5, 256, u32::MAX];
+    let mut questions = Vec::new();
+    for coordinates in coordinate_lengths {
+        for indices in index_lengths {
+            for depth in depths {
+                for space in [0, 7, 8, 9, 16, 7999, 8000, 8001, 8008] {
+                    // a full lot of sound elements is slow for the second
+                    // program: at the depths 0 and 1 only
+                    let slow = space == 8000 && indices == 8000 && coordinates == 15_000;
+                    if !(slow && (2..=3).contains(&depth)) {
+                        questions.push((coordinates, indices, depth, space));
+                    }
+                }
+            }
+        }
+    }
+    let cube = cases().swap_remove(0).points;
+    let tally = on_two_threads(questions.len(), |turn, tally| {
+        let (coordinates, indices, depth, space) = questions[turn];
+        let words = pair.ask(&Question::Inspect {
+            depth,
+            space,
+            coordinates: cube.iter().copied().cycle().take(coordinates).collect(),
+            indices: IN_ORDER.iter().copied().cycle().take(indices).collect(),
+        })?;
+        count(tally, format!("number {}", words[0]));
+        Ok(())
+    })?;
+    Ok(format!("{} meshes, {}", questions.len(), in_words(&tally)))
+}
+
+/// Random meshes with anything wrong in them.
+fn meshes(pair: Pair, plan: Plan) -> Result<String, Difference> {
+    let tally = on_two_threads(plan.meshes, |turn, tally| {
+        let mut shaker = shaker_for(plan.seed, 1, turn);
+        let question = draw::mesh(&mut shaker);
+        let words = pair.ask(&question)?;
+        count(tally, format!("number {}", words[0]));
+        for (kind, name) in ["valid", "invalid", "undecided", "refused"].iter().enumerate() {
+            *tally.entry(format!("{name} records")).or_insert(0) += words[1 + kind] as u64;
+        }
+        if let Question::Inspect { coordinates, indices, .. } = &question {
+            if words[0] == 0 && indices.len() <= 80 {
+                mesh_over_depths(pair.first, coordinates, indices)?;
+                count(tally, "held over depths".to_string());
+            }
+        }
+        pair.ask(&draw::bounds(&mut shaker))?;
+        Ok(())
+    })?;
+    Ok(format!("{} meshes and as many bounds, {}", plan.meshes, in_words(&tally)))
+}
+
+/// Moves of all small addresses, and of any.
+fn moves(pair: Pair, plan: Plan) -> Result<String, Difference> {
+    let tally = on_two_threads(6, |level, tally| {
+        for at in 0..11u32.pow(3) {
+            let address = [level as u32, at / 121, at / 11 % 11, at % 11];
+            for n in 0..=10 {
+                count_move(tally, &pair.ask(&Question::Child { address, n })?);
+                count_move(tally, &pair.ask(&Question::Corner { address, n })?);
+            }
+            count_move(tally, &pair.ask(&Question::Parent { address })?);
+        }
+        Ok(())
+    })?;
+    let mut shaker = shaker_for(plan.seed, 2, 0);
+    for _ in 0..plan.moves {
+        for question in draw::moves(&mut shaker) {
+            pair.ask(&question)?;
+        }
+    }
+    Ok(format!("{} of small addresses, {} of any", in_words(&tally), 3 * plan.moves))
+}
+
+fn count_move(tally: &mut Tally, words: &[i64]) {
+    count(tally, (if words[0] == 1 { "made" } else { "not made" }).to_string());
+}
+
+/// Stamps of answers that an inspection can give, 1 to 4 with counts 0 and 0
+/// with any counts; and of any five numbers, where 01 is silent and both
+/// programs say "faulty" of a number that is not 0.
+fn stamps(pair: Pair, plan: Plan) -> Result<String, Difference> {
+    let mut shaker = shaker_for(plan.seed, 3, 0);
+    let mut tally = Tally::new();
+    for turn in 0..20_000 {
+        let mut answer = [0; 5];
+        for counted in &mut answer[1..] {
+            let some = shaker.between(1, 1000) as u32;
+            *counted = [0, 0, 0, some, u32::MAX][shaker.between(0, 4) as usize];
+        }
+        match turn % 4 {
+            0 => answer = [shaker.between(0, 4) as u32, 0, 0, 0, 0],
+            1 => answer[0] = shaker.draw() as u32,
+            _ => {}
+        }
+        let words = pair.ask(&Question::Stamp { answer })?;
+        count(&mut tally, (if words[0] == 0 { "sound" } else { "faulty" }).to_string());
+    }
+    Ok(format!("{}, beside that of every mesh", in_words(&tally)))
+}
+
+/// Random elements of every kind.  The depth goes round with the element: two
+/// in eight are asked to depth 3, with every depth below.
+fn elements(pair: Pair, plan: Plan) -> Result<String, Difference> {
+    const LOT: usize = 64;
+    const DEPTHS: [u32; 8] = [0, 3, 1, 2, 1, 3, 0, 2];
+    let jobs = plan.elements.div_ceil(LOT);
+    let tally = on_two_threads(jobs, |turn, tally| {
+        let mut shaker = shaker_for(plan.seed, 4, turn);
+        for at in turn * LOT..((turn + 1) * LOT).min(plan.elements) {
+            let kind: Kind = KINDS[at % KINDS.len()];
+            let depth = DEPTHS[at / KINDS.len() % DEPTHS.len()];
+            let points = draw::element(&mut shaker, kind);
+            let words = pair.ask(&Question::Element { depth, points })?;
+            count(tally, format!("depth {depth}"));
+            let record = last_record(&words);
+            if depth == 3 {
+                count(tally, format!("{kind:?}: {}", verdict(&record)));
+            }
+        }
+        Ok(())
+    })?;
+    Ok(format!("{} elements, {}", plan.elements, in_words(&tally)))
+}
+
+fn in_words(tally: &Tally) -> String {
+    let parts: Vec<String> = tally.iter().map(|(what, times)| format!("{what} {times}")).collect();
+    parts.join("; ")
+}
+
+/// One part of a run.
+type Part<'a> = (&'a str, &'a dyn Fn() -> Result<String, Difference>);
+
+/// Everything, part by part; what each came to is said in a line.
+pub fn run(pair: Pair, plan: Plan, say: impl Fn(String)) -> Result<(), Difference> {
+    say(format!("seed {}", plan.seed));
+    let parts: [Part; 7] = [
+        ("worked cases", &|| worked_cases(pair)),
+        ("figures of the paper", &|| paper_figures(pair)),
+        ("address moves", &|| moves(pair, plan)),
+        ("stamps", &|| stamps(pair, plan)),
+        ("refusals", &|| refusals(pair)),
+        ("random meshes", &|| meshes(pair, plan)),
+        ("random elements", &|| elements(pair, plan)),
+    ];
+    for (name, part) in parts {
+        let start = Instant::now();
+        let said = part()?;
+        say(format!("{name}: {said} ({:.1} s)", start.elapsed().as_secs_f64()));
+    }
+    Ok(())
+}

@@ -1,0 +1,781 @@
+//! The worked cases and rules of 01, one test each or more.
+
+use super::specimens::{cube, from_nodes, rings_exchanged, twisted, worked, Points, Shaker};
+use super::*;
+
+const JUNK: i64 = -7_777_777;
+
+fn case(name: char) -> Points {
+    worked().into_iter().find(|(n, _)| *n == name).unwrap().1
+}
+
+fn narrow(points: &Points) -> [i32; 24] {
+    points.map(|x| i32::try_from(x).unwrap())
+}
+
+/// One element of eight nodes of its own, inspected.
+fn inspect_one(points: &Points, indices: [u32; 8], depth: u32) -> (Inspection, [i64; 8]) {
+    let mut report = [JUNK; 8];
+    let answer = inspect(&Limits::base(), &narrow(points), &indices, depth, &mut report);
+    (answer, report)
+}
+
+const IN_ORDER: [u32; 8] = [0, 1, 2, 3, 4, 5, 6, 7];
+
+fn counts(valid: u32, invalid: u32, undecided: u32, refused: u32) -> Inspection {
+    Inspection { number: 0, valid, invalid, undecided, refused }
+}
+
+fn refusal(number: u32) -> Inspection {
+    Inspection { number, ..Inspection::default() }
+}
+
+/// The record, and the same words from an inspection.
+#[track_caller]
+fn expect(points: &Points, depth: u32, words: [i64; 8]) {
+    assert_eq!(record(points, depth), words);
+    let (answer, report) = inspect_one(points, IN_ORDER, depth);
+    assert_eq!(report, words);
+    let mut kinds = [0; 3];
+    kinds[words[0] as usize] = 1;
+    assert_eq!(answer, counts(kinds[0], kinds[1], kinds[2], 0));
+}
+
+#[track_caller]
+fn expect_bounds(points: &Points, depth: u32, low: i64, high: i64) {
+    assert_eq!(bounds_of(points, depth), (i128::from(low), i128::from(high)));
+    let answer = bounds(&Limits::base(), &narrow(points), depth);
+    assert_eq!(answer, BoundsAnswer { number: 0, low, high });
+}
+
+// ------------------------------------------------------------ worked cases --
+
+#[test]
+fn case_a_unit_cube() {
+    for depth in 0..=3 {
+        expect(&case('A'), depth, [0, 0, 0, 0, 0, 0, 0, 1]);
+        let held = 8 * 64i64.pow(depth);
+        expect_bounds(&case('A'), depth, held, held);
+    }
+}
+
+#[test]
+fn case_b_one_point() {
+    for depth in 0..=3 {
+        for node in [[0, 0, 0], [2, -3, 5], [4096, -4096, 4096]] {
+            expect(&from_nodes([node; 8]), depth, [1, 0, 0, 0, 0, 1, 0, 1]);
+            expect_bounds(&from_nodes([node; 8]), depth, 0, 0);
+        }
+    }
+}
+
+#[test]
+fn case_c_rings_exchanged() {
+    for depth in 0..=3 {
+        expect(&case('C'), depth, [1, 0, 0, 0, 0, 1, -8, 1]);
+    }
+}
+
+#[test]
+fn case_d_twisted_and_valid() {
+    expect(&case('D'), 0, [2, 0, 0, 0, 0, 13, 0, 1]);
+    expect(&case('D'), 1, [0, 1, 0, 0, 0, 0, 0, 9]);
+    expect_bounds(&case('D'), 1, 1024, 1024);
+    expect(&case('D'), 2, [0, 1, 0, 0, 0, 0, 0, 9]);
+    expect(&case('D'), 3, [0, 1, 0, 0, 0, 0, 0, 9]);
+}
+
+#[test]
+fn case_e_twisted_and_invalid() {
+    expect(&case('E'), 0, [2, 0, 0, 0, 0, 13, -32, 1]);
+    for depth in 1..=3 {
+        expect(&case('E'), depth, [1, 1, 0, 0, 1, 5, 0, 2]);
+    }
+}
+
+#[test]
+fn case_f_undecided_at_every_depth() {
+    let f = case('F');
+    for m in 0..=5u32 {
+        let steps = 1u64 << m;
+        for c in 0..=steps {
+            // J = 4 (1 - 3 zeta)^2
+            let root = steps as i128 - 3 * c as i128;
+            let expected = 4 * root * root * 16i128.pow(m);
+            for a in 0..=steps {
+                for b in 0..=steps {
+                    assert_eq!(jacobian(&f, m, a, b, c), expected);
+                }
+            }
+        }
+    }
+    expect(&f, 0, [2, 0, 0, 0, 0, 13, -64, 1]);
+    for depth in 0..=3 {
+        assert_eq!(record(&f, depth)[0], 2);
+        assert_eq!(record(&f, depth)[1], i64::from(depth));
+    }
+    expect(&f, 3, [2, 3, 0, 0, 2, 13, -262_144, 169]);
+    expect_bounds(&f, 3, -262_144, 131_072);
+    for depth in 4..=5 {
+        assert_eq!(record(&f, depth)[0], 2);
+    }
+}
+
+#[test]
+fn case_g_zero_is_not_positive() {
+    let g = case('G');
+    for depth in 0..=3 {
+        expect(&g, depth, [1, 0, 0, 0, 0, 1, 0, 1]);
+    }
+    // slip 1: all other coefficients are positive
+    let held = coefficients(&g, 0, 0, 0, 0);
+    assert_eq!(held[0], 0);
+    assert!(held[1..].iter().all(|&x| x > 0));
+}
+
+#[test]
+fn case_h_range() {
+    let mut h = case('A');
+    h[3 * 2 + 1] = 4097;
+    for depth in 0..=3 {
+        let expected = (counts(0, 0, 0, 1), [6, 3, 2, 0, 0, 0, 0, 0]);
+        assert_eq!(inspect_one(&h, IN_ORDER, depth), expected);
+        let answer = bounds(&Limits::base(), &narrow(&h), depth);
+        assert_eq!(answer, BoundsAnswer { number: 6, low: 0, high: 0 });
+        expect(&cube(-4096, 4096), depth, [0, 0, 0, 0, 0, 0, 0, 1]);
+    }
+}
+
+#[test]
+fn case_i_index() {
+    for depth in 0..=3 {
+        let expected = (counts(0, 0, 0, 1), [5, 4, 8, 0, 0, 0, 0, 0]);
+        assert_eq!(inspect_one(&case('A'), [0, 1, 2, 8, 4, 5, 6, 7], depth), expected);
+    }
+}
+
+// ----------------------------------------------------- determinant, 27 rows --
+
+/// steps^6 times the sum of held coefficients against the products of
+/// Bernstein functions of degree 2, at the point `at` / steps of the cube.
+fn bernstein_sum(held: &[i128; 27], at: [i128; 3], steps: i128) -> i128 {
+    let functions = at.map(|t| {
+        let u = steps - t;
+        [u * u, 2 * t * u, t * t]
+    });
+    places()
+        .iter()
+        .zip(held)
+        .map(|([i, j, k], value)| functions[0][*i] * functions[1][*j] * functions[2][*k] * value)
+        .sum()
+}
+
+/// "the only 27 numbers whose sum against the products of Bernstein functions
+/// of degree 2 gives J at every grid point"
+#[test]
+fn coefficients_reproduce_the_determinant() {
+    let mut shaker = Shaker::new(11);
+    for _ in 0..200 {
+        let points = shaker.element();
+        for (m, cell) in [(0u32, [0u64, 0, 0]), (1, [1, 0, 1]), (2, [3, 1, 2])] {
+            let held = coefficients(&points, m, cell[0], cell[1], cell[2]);
+            for a in 0..=8u64 {
+                for b in 0..=8u64 {
+                    for c in 0..=8u64 {
+                        let inside = [a, b, c].map(i128::from);
+                        let sum = bernstein_sum(&held, inside, 8);
+                        // 8^6 * (8 * 64^m) J, and 64^(m+3) J: 8^6 is 64^3
+                        let [x, y, z] = [a + 8 * cell[0], b + 8 * cell[1], c + 8 * cell[2]];
+                        assert_eq!(sum, 8 * jacobian(&points, m + 3, x, y, z));
+                    }
+                }
+            }
+        }
+    }
+}
+
+/// Six times the volume of a tetrahedron.
+fn six_volumes(n: [[i128; 3]; 4]) -> i128 {
+    let from_first = |i: usize| [0, 1, 2].map(|axis| n[i][axis] - n[0][axis]);
+    determinant(from_first(1), from_first(2), from_first(3))
+}
+
+/// "For edge 1-2 it is the tetrahedron n1, n2, (n3+n4)/2, (n5+n6)/2. Four
+/// times an edge value is whole."
+#[test]
+fn an_edge_value_is_a_tetrahedron() {
+    let mut shaker = Shaker::new(12);
+    for _ in 0..500 {
+        let points = shaker.element();
+        let node = |n: usize| [0, 1, 2].map(|axis| i128::from(points[3 * (n - 1) + axis]));
+        let sum = |n: usize, l: usize| [0, 1, 2].map(|axis| node(n)[axis] + node(l)[axis]);
+        // all four points doubled: eight times the value
+        let eight = six_volumes([sum(1, 1), sum(2, 2), sum(3, 4), sum(5, 6)]);
+        assert_eq!(eight * 8, jacobian(&points, 1, 1, 0, 0));
+        assert_eq!(eight % 2, 0);
+        let corner = six_volumes([node(1), node(2), node(4), node(5)]);
+        assert_eq!(corner, jacobian(&points, 0, 0, 0, 0));
+    }
+}
+
+/// The corner, edge, face and centre rules of 01, from 20 values.
+#[test]
+fn coefficients_follow_the_twenty_values() {
+    let mut shaker = Shaker::new(13);
+    for _ in 0..500 {
+        let points = shaker.element();
+        let held = coefficients(&points, 0, 0, 0, 0);
+        // all times 64, at half steps
+        let at = |[i, j, k]: [usize; 3]| jacobian(&points, 1, i as u64, j as u64, k as u64);
+        let corner = |n: usize| at(middle_of(&[n]));
+        let edge = |e: usize| at(middle_of(&EDGES[e]));
+        for n in 1..=8 {
+            assert_eq!(64 * held[n - 1], 8 * corner(n));
+        }
+        for e in 0..12 {
+            let [n, l] = EDGES[e];
+            assert_eq!(64 * held[8 + e], 16 * edge(e) - 4 * (corner(n) + corner(l)));
+        }
+        for f in 0..6 {
+            let on_face = |e: &usize| EDGES[*e].iter().all(|n| FACES[f].contains(n));
+            let edges: Vec<usize> = (0..12).filter(on_face).collect();
+            assert_eq!(edges.len(), 4);
+            let middles: i128 = edges.into_iter().map(edge).sum();
+            let corners: i128 = FACES[f].iter().map(|&n| corner(n)).sum();
+            assert_eq!(64 * held[20 + f], 8 * middles - 6 * corners);
+        }
+        let middles: i128 = (0..12).map(edge).sum();
+        let corners: i128 = (1..=8).map(corner).sum();
+        assert_eq!(64 * held[26], 4 * middles - 5 * corners);
+    }
+}
+
+/// "(p, (p+q)/2, (p+2q+r)/4) and ((p+2q+r)/4, (q+r)/2, r)", "Kept four times
+/// larger it needs no division."
+fn half_of_row([p, q, r]: [i128; 3], upper: bool) -> [i128; 3] {
+    let middle = p + 2 * q + r;
+    if upper {
+        [middle, 2 * (q + r), 4 * r]
+    } else {
+        [4 * p, 2 * (p + q), middle]
+    }
+}
+
+/// "Doing so in xi, eta and zeta makes eight children, numbered as the corners
+/// they touch, each 64 times larger."
+#[test]
+fn children_are_cuts_of_their_parent() {
+    let mut shaker = Shaker::new(14);
+    for _ in 0..100 {
+        let points = shaker.element();
+        for (m, at) in [(0u32, [0u64, 0, 0]), (1, [0, 1, 1]), (2, [3, 0, 2])] {
+            let parent = coefficients(&points, m, at[0], at[1], at[2]);
+            for n in 1..=8 {
+                let place = CORNERS[n - 1];
+                let mut net: Net = [[[0; 3]; 3]; 3];
+                for ([i, j, k], value) in places().into_iter().zip(parent) {
+                    net[i][j][k] = value;
+                }
+                for u in 0..3 {
+                    for v in 0..3 {
+                        let row = half_of_row([0, 1, 2].map(|i| net[i][u][v]), place[0] == 1);
+                        (0..3).for_each(|i| net[i][u][v] = row[i]);
+                    }
+                }
+                for u in 0..3 {
+                    for v in 0..3 {
+                        let row = half_of_row([0, 1, 2].map(|j| net[u][j][v]), place[1] == 1);
+                        (0..3).for_each(|j| net[u][j][v] = row[j]);
+                    }
+                }
+                for u in 0..3 {
+                    for v in 0..3 {
+                        net[u][v] = half_of_row(net[u][v], place[2] == 1);
+                    }
+                }
+                let child = [0, 1, 2].map(|axis| 2 * at[axis] + u64::from(place[axis]));
+                let expected = places().map(|[i, j, k]| net[i][j][k]);
+                assert_eq!(coefficients(&points, m + 1, child[0], child[1], child[2]), expected);
+            }
+        }
+    }
+}
+
+/// "corner = its J", so the first eight coefficients are the corner values at
+/// every level: the two ways in which this program gets them agree.
+#[test]
+fn corner_coefficients_are_corner_values() {
+    let mut shaker = Shaker::new(15);
+    for _ in 0..100 {
+        let points = shaker.element();
+        for level in 0..=3u32 {
+            let grid = Grid::sampled(&points, level);
+            for index in 0..1usize << (3 * level) {
+                let at = cube_in_path_order(level, index);
+                let [a, b, c] = at.map(u64::from);
+                let held = coefficients(&points, level, a, b, c);
+                assert_eq!(held[..8], corner_values(&grid, at));
+            }
+        }
+    }
+}
+
+/// 01's numbering, written out: half steps on xi, eta, zeta.
+#[test]
+fn places_follow_the_numbering() {
+    let corners =
+        [[0, 0, 0], [2, 0, 0], [2, 2, 0], [0, 2, 0], [0, 0, 2], [2, 0, 2], [2, 2, 2], [0, 2, 2]];
+    let edges = [
+        [1, 0, 0], // 9: 1-2
+        [2, 1, 0], // 10: 2-3
+        [1, 2, 0], // 11: 3-4
+        [0, 1, 0], // 12: 1-4
+        [0, 0, 1], // 13: 1-5
+        [2, 0, 1], // 14: 2-6
+        [2, 2, 1], // 15: 3-7
+        [0, 2, 1], // 16: 4-8
+        [1, 0, 2], // 17: 5-6
+        [2, 1, 2], // 18: 6-7
+        [1, 2, 2], // 19: 7-8
+        [0, 1, 2], // 20: 5-8
+    ];
+    let faces = [
+        [1, 1, 0], // 21: 1234
+        [1, 0, 1], // 22: 1256
+        [2, 1, 1], // 23: 2367
+        [1, 2, 1], // 24: 3478
+        [0, 1, 1], // 25: 1458
+        [1, 1, 2], // 26: 5678
+    ];
+    let centre = [[1, 1, 1]]; // 27
+    let written: Vec<[usize; 3]> = [&corners[..], &edges, &faces, &centre].concat();
+    assert_eq!(places().to_vec(), written);
+}
+
+/// "no coefficient passes 384 * 4,096^3 times 64^m, the largest magnitude at
+/// depth 3 is at most 6,917,529,027,641,081,856, which fits 64 bits"
+#[test]
+fn magnitudes_fit() {
+    let most: i128 = 384 * 4096i128.pow(3) * 64i128.pow(3);
+    assert_eq!(most, 6_917_529_027_641_081_856);
+    assert!(most <= i128::from(i64::MAX));
+    let mut shaker = Shaker::new(16);
+    for _ in 0..100 {
+        let mut points = [0; 24];
+        points.iter_mut().for_each(|x| *x = [-4096, 4096][shaker.between(0, 1) as usize]);
+        for level in 0..=3 {
+            let most_here = most / 64i128.pow(3 - level);
+            for index in 0..1usize << (3 * level) {
+                let [a, b, c] = cube_in_path_order(level, index).map(u64::from);
+                let held = coefficients(&points, level, a, b, c);
+                assert!(held.iter().all(|x| x.abs() <= most_here));
+            }
+        }
+    }
+}
+
+/// Renumbering by a symmetry keeps the 27 coefficients, in another order.
+#[test]
+fn turned_elements_are_the_same_elements() {
+    let mut shaker = Shaker::new(21);
+    for _ in 0..500 {
+        let points = shaker.small();
+        let turned = shaker.turned(&points);
+        let mut before = coefficients(&points, 0, 0, 0, 0);
+        let mut after = coefficients(&turned, 0, 0, 0, 0);
+        before.sort();
+        after.sort();
+        assert_eq!(before, after);
+        assert_eq!(bounds_of(&points, 2), bounds_of(&turned, 2));
+    }
+}
+
+// ---------------------------------------------------- path order and opened --
+
+#[test]
+fn path_order() {
+    assert_eq!(cube_in_path_order(0, 0), [0, 0, 0]);
+    let first_level: Vec<[u32; 3]> = (0..8).map(|i| cube_in_path_order(1, i)).collect();
+    assert_eq!(first_level, CORNERS.to_vec());
+    // child 3, then 8, then 2
+    assert_eq!(cube_in_path_order(3, 0o271), [5, 6, 2]);
+    let mut all: Vec<[u32; 3]> = (0..512).map(|i| cube_in_path_order(3, i)).collect();
+    for (index, &[a, b, c]) in all.iter().enumerate() {
+        let address = Address { level: 3, a, b, c };
+        let (parent, moved) = address.parent(&Limits::base());
+        assert!(moved);
+        assert_eq!([parent.a, parent.b, parent.c], cube_in_path_order(2, index / 8));
+        let (child, moved) = parent.child(index as u32 % 8 + 1, &Limits::base());
+        assert!(moved);
+        assert_eq!(child, address);
+    }
+    all.sort();
+    all.dedup();
+    assert_eq!(all.len(), 512);
+}
+
+/// The opened count by an own walk of due cubes, beside the full list's.
+fn opened_by_queue(points: &Points, depth: u32, words: &[i64; 8]) -> i64 {
+    let mut due = vec![[0u32; 3]];
+    let mut count = 0;
+    for level in 0..=depth {
+        let mut next = Vec::new();
+        for at in due {
+            count += 1;
+            let held = coefficients(points, level, at[0].into(), at[1].into(), at[2].into());
+            if words[0] == 1 && words[1] == i64::from(level) && held[..8].iter().any(|&x| x <= 0) {
+                return count;
+            }
+            if held.iter().any(|&x| x <= 0) {
+                next.extend(CORNERS.map(|place| [0, 1, 2].map(|i| 2 * at[i] + place[i])));
+            }
+        }
+        due = next;
+    }
+    count
+}
+
+#[test]
+fn opened_counts_agree_with_a_walk() {
+    let seed = 17;
+    println!("seed {seed}");
+    let mut shaker = Shaker::new(seed);
+    for _ in 0..400 {
+        let points = shaker.element();
+        for depth in 0..=3 {
+            let words = record(&points, depth);
+            assert_eq!(words[7], opened_by_queue(&points, depth, &words));
+            assert!((1..=585).contains(&words[7]));
+        }
+    }
+}
+
+// --------------------------------------------------------------- refusals --
+
+/// Every wrong thing at once, mended one after the other.
+#[test]
+fn refusals_in_their_order() {
+    let limits = Limits::base();
+    let good = narrow(&case('A'));
+    let mut report = [JUNK; 9];
+    let bad_coordinates = &good[..23];
+    let bad_indices = &IN_ORDER[..7];
+    assert_eq!(inspect(&limits, bad_coordinates, bad_indices, 4, &mut report), refusal(1));
+    assert_eq!(inspect(&limits, bad_coordinates, bad_indices, u32::MAX, &mut report), refusal(1));
+    assert_eq!(inspect(&limits, bad_coordinates, bad_indices, 3, &mut report), refusal(2));
+    assert_eq!(inspect(&limits, &good, bad_indices, 3, &mut report), refusal(3));
+    assert_eq!(inspect(&limits, &good, &IN_ORDER, 3, &mut report), refusal(4));
+    assert_eq!(inspect(&limits, &good, &IN_ORDER, 3, &mut report[..7]), refusal(4));
+    assert_eq!(inspect(&limits, &good, &IN_ORDER, 3, &mut []), refusal(4));
+    assert_eq!(inspect(&limits, &good, &[], 3, &mut report[..8]), refusal(4));
+    assert_eq!(report, [JUNK; 9], "a refusal leaves the report space untouched");
+    assert_eq!(inspect(&limits, &good, &IN_ORDER, 3, &mut report[..8]), counts(1, 0, 0, 0));
+    assert_eq!(report, [0, 0, 0, 0, 0, 0, 0, 1, JUNK]);
+}
+
+#[test]
+fn refusals_at_the_limits() {
+    let limits = Limits::base();
+    let unit = narrow(&case('A'));
+    let mut nodes = vec![i32::MIN; 3 * 5001];
+    nodes[..24].copy_from_slice(&unit);
+    let mut report = [JUNK; 8];
+    assert_eq!(inspect(&limits, &nodes, &IN_ORDER, 0, &mut report), refusal(2));
+    assert_eq!(report, [JUNK; 8]);
+    // 5,000 nodes are taken, and unnamed nodes "are not looked at"
+    let taken = &nodes[..3 * 5000];
+    assert_eq!(inspect(&limits, taken, &IN_ORDER, 0, &mut report), counts(1, 0, 0, 0));
+    let elements: Vec<u32> = IN_ORDER.repeat(1001);
+    let mut long = vec![JUNK; 8 * 1001];
+    assert_eq!(inspect(&limits, &unit, &elements, 0, &mut long), refusal(3));
+    assert!(long.iter().all(|&x| x == JUNK));
+    let (elements, long) = (&elements[..8000], &mut long[..8000]);
+    assert_eq!(inspect(&limits, &unit, elements, 0, long), counts(1000, 0, 0, 0));
+}
+
+/// "A mesh of no elements is accepted."
+#[test]
+fn no_elements() {
+    for coordinates in [&[][..], &[1, 2, i32::MAX][..]] {
+        let answer = inspect(&Limits::base(), coordinates, &[], 3, &mut []);
+        assert_eq!(answer, counts(0, 0, 0, 0));
+        assert_eq!(stamp(&answer), Stamp::Sound);
+    }
+}
+
+/// "Within an element all eight indices are tested before any coordinate;
+/// lowest place first, then x, y, z."
+#[test]
+fn order_within_an_element() {
+    let mut points = case('A');
+    points[3 + 2] = -4097; // place 2, z
+    points[3 * 4] = i64::from(i32::MIN); // place 5, x
+    let last = [0, 1, 2, 3, 4, 5, 6, u32::MAX];
+    assert_eq!(inspect_one(&points, last, 0).1, [5, 8, 4_294_967_295, 0, 0, 0, 0, 0]);
+    let two = [0, 1, 9, 3, 4, 8, 6, 7];
+    assert_eq!(inspect_one(&points, two, 0).1, [5, 3, 9, 0, 0, 0, 0, 0]);
+    assert_eq!(inspect_one(&points, IN_ORDER, 0).1, [6, 2, 3, 0, 0, 0, 0, 0]);
+    // the place is counted in the element, not in the nodes
+    let turned = [0, 4, 2, 3, 1, 5, 6, 7];
+    assert_eq!(inspect_one(&points, turned, 0).1, [6, 2, 1, 0, 0, 0, 0, 0]);
+    points[3 + 1] = 4097; // place 2, y comes before z
+    assert_eq!(inspect_one(&points, IN_ORDER, 0).1, [6, 2, 2, 0, 0, 0, 0, 0]);
+}
+
+/// "It refuses with 1 and then 6 and no other, by number alone, and both
+/// bounds are then 0."
+#[test]
+fn refusals_of_the_bounds() {
+    let mut points = narrow(&case('A'));
+    points[23] = -4097;
+    let refused = |number| BoundsAnswer { number, low: 0, high: 0 };
+    assert_eq!(bounds(&Limits::base(), &points, 4), refused(1));
+    assert_eq!(bounds(&Limits::base(), &points, 3), refused(6));
+    points[23] = -4096;
+    assert_eq!(bounds(&Limits::base(), &points, 4), refused(1));
+    assert_eq!(bounds(&Limits::base(), &points, 3).number, 0);
+}
+
+// ----------------------------------------------------------- whole meshes --
+
+/// Slip 5, "A record left from the element before": a mesh of every kind of
+/// record, in many orders, over a space full of old words.
+#[test]
+fn no_word_is_left_from_before() {
+    let seed = 18;
+    println!("seed {seed}");
+    let mut shaker = Shaker::new(seed);
+    let limits = Limits::base();
+    let mut report = vec![JUNK; 8 * 40];
+    for round in 0..60u32 {
+        let depth = round % 4;
+        let mut coordinates: Vec<i32> = Vec::new();
+        let mut indices: Vec<u32> = Vec::new();
+        let mut expected: Vec<i64> = Vec::new();
+        let mut tally = [0u32; 7];
+        for element in 0..40u32 {
+            let mut points = match shaker.between(0, 3) {
+                0 => worked()[shaker.between(0, 6) as usize].1,
+                _ => shaker.element(),
+            };
+            let mut names = IN_ORDER.map(|n| n + 8 * element);
+            let mut words = record(&points, depth);
+            match shaker.between(0, 5) {
+                0 => {
+                    let place = shaker.between(0, 7) as usize;
+                    names[place] = 320 + shaker.between(0, 1 << 31) as u32;
+                    words = [5, place as i64 + 1, i64::from(names[place]), 0, 0, 0, 0, 0];
+                }
+                1 => {
+                    let at = shaker.between(0, 23);
+                    points[at as usize] = shaker.between(4097, 1 << 30);
+                    words = [6, at / 3 + 1, at % 3 + 1, 0, 0, 0, 0, 0];
+                }
+                _ => {}
+            }
+            coordinates.extend(narrow(&points));
+            indices.extend(names);
+            expected.extend(words);
+            tally[words[0] as usize] += 1;
+        }
+        let answer = inspect(&limits, &coordinates, &indices, depth, &mut report);
+        assert_eq!(report, expected);
+        assert_eq!(answer, counts(tally[0], tally[1], tally[2], tally[5] + tally[6]));
+        let faulty = tally[1] + tally[5] + tally[6] > 0;
+        assert_eq!(stamp(&answer) == Stamp::Faulty, faulty);
+    }
+}
+
+/// "sound" with valid and undecided records only.
+#[test]
+fn stamps() {
+    assert_eq!(stamp(&counts(3, 0, 0, 0)), Stamp::Sound);
+    assert_eq!(stamp(&counts(3, 0, 2, 0)), Stamp::Sound);
+    assert_eq!(stamp(&counts(3, 1, 2, 0)), Stamp::Faulty);
+    assert_eq!(stamp(&counts(3, 0, 2, 1)), Stamp::Faulty);
+    for number in 1..=4 {
+        assert_eq!(stamp(&refusal(number)), Stamp::Faulty);
+    }
+}
+
+// ------------------------------------------------------------- over depths --
+
+/// Records and bounds of one element at the depths 0 to 3, held together: a
+/// decision stays as it is at every greater depth, and bounds only close in.
+fn check_over_depths(points: &Points) -> [[i64; 8]; 4] {
+    let records = [0, 1, 2, 3].map(|depth| record(points, depth));
+    let bounds = [0, 1, 2, 3].map(|depth| bounds_of(points, depth));
+    for depth in 0..4 {
+        let (low, high) = bounds[depth];
+        assert!(low <= high);
+        // the verdict as the bounds show it
+        let kind = if high <= 0 {
+            1
+        } else if low > 0 {
+            0
+        } else {
+            2
+        };
+        assert_eq!(records[depth][0], kind, "{points:?} at {depth}");
+        if kind == 2 {
+            assert_eq!(records[depth][1], depth as i64);
+        } else {
+            // the level named is itself the least depth with this decision
+            let level = records[depth][1] as usize;
+            assert!(level <= depth);
+            assert_eq!(records[level], records[depth]);
+            assert!(records[..level].iter().all(|words| words[0] == 2));
+        }
+        for deeper in depth + 1..4 {
+            let scale = 64i128.pow((deeper - depth) as u32);
+            assert!(low * scale <= bounds[deeper].0, "{points:?}");
+            assert!(bounds[deeper].1 <= high * scale, "{points:?}");
+            if kind != 2 {
+                assert_eq!(records[depth], records[deeper], "{points:?}");
+            }
+        }
+    }
+    records
+}
+
+#[test]
+fn over_depths_on_random_elements() {
+    let seed = 19;
+    println!("seed {seed}");
+    let mut shaker = Shaker::new(seed);
+    let mut met = std::collections::BTreeMap::new();
+    for _ in 0..4000 {
+        let words = check_over_depths(&shaker.element())[3];
+        *met.entry((words[0], words[1])).or_insert(0u32) += 1;
+    }
+    println!("kind and level at depth 3: {met:?}");
+    for (kind, level) in [(0, 0), (0, 1), (0, 2), (0, 3), (1, 0), (1, 1), (1, 2), (1, 3), (2, 3)] {
+        assert!(met.contains_key(&(kind, level)), "no element of kind {kind}, level {level}");
+    }
+}
+
+#[test]
+fn over_depths_on_worked_elements() {
+    for (_, points) in worked() {
+        check_over_depths(&points);
+    }
+    for p in -3..=3 {
+        for q in -3..=3 {
+            check_over_depths(&twisted(1, 1, p, q));
+            check_over_depths(&rings_exchanged(&twisted(1, 1, p, q)));
+        }
+    }
+}
+
+/// All depths at once is each depth by itself.
+#[test]
+fn all_depths_at_once() {
+    let mut shaker = Shaker::new(22);
+    for turn in 0..300u32 {
+        let (points, depth) = (shaker.element(), turn % 4);
+        let singly: Vec<_> =
+            (0..=depth).map(|d| (record(&points, d), bounds_of(&points, d))).collect();
+        assert_eq!(super::over_depths(&points, depth), Some(singly));
+    }
+    assert_eq!(super::over_depths(&[i64::MAX; 24], 0), None);
+    assert_eq!(super::over_depths(&[0; 24], REACH_DEPTH + 1), None);
+}
+
+// --------------------------------------------------------------- addresses --
+
+#[test]
+fn moves_of_an_address() {
+    let limits = Limits::base();
+    let at = |level, a, b, c| Address { level, a, b, c };
+    let whole = at(0, 0, 0, 0);
+    assert_eq!(whole.parent(&limits), (whole, false));
+    assert_eq!(whole.child(7, &limits), (at(1, 1, 1, 1), true));
+    assert_eq!(whole.corner(7, &limits), (at(0, 1, 1, 1), true));
+    assert_eq!(at(1, 1, 0, 1).child(4, &limits), (at(2, 2, 1, 2), true));
+    assert_eq!(at(3, 7, 0, 7).corner(3, &limits), (at(3, 8, 1, 7), true));
+    assert_eq!(at(3, 7, 4, 1).parent(&limits), (at(2, 3, 2, 0), true));
+    assert_eq!(at(3, 7, 0, 7).child(1, &limits), (at(3, 7, 0, 7), false));
+    for n in [0, 9, u32::MAX] {
+        assert_eq!(whole.child(n, &limits), (whole, false));
+        assert_eq!(whole.corner(n, &limits), (whole, false));
+    }
+    // "any move from an address that is no cube"
+    for none in [at(4, 0, 0, 0), at(0, 1, 0, 0), at(2, 0, 4, 0), at(3, 0, 0, u32::MAX)] {
+        for n in 0..10 {
+            assert_eq!(none.child(n, &limits), (none, false));
+            assert_eq!(none.corner(n, &limits), (none, false));
+        }
+        assert_eq!(none.parent(&limits), (none, false));
+    }
+    for n in 1..=8 {
+        for a in 0..4 {
+            let start = at(2, a, 3 - a, 1);
+            let (child, moved) = start.child(n, &limits);
+            assert!(moved);
+            assert_eq!(child.parent(&limits), (start, true));
+        }
+    }
+}
+
+// ------------------------------------------------------------------- reach --
+
+/// Nothing panics, whatever is handed in.
+#[test]
+fn every_input_is_answered() {
+    let extremes = [i64::MIN, -1, 0, 1, i64::MAX];
+    let mut shaker = Shaker::new(20);
+    for _ in 0..200 {
+        let mut points = [0; 24];
+        points.iter_mut().for_each(|x| *x = extremes[shaker.between(0, 4) as usize]);
+        for m in [0, 1, 3, 63, 64, 127, 128, u32::MAX] {
+            let [a, b, c] = [shaker.draw(), u64::MAX, 0];
+            jacobian(&points, m, a, b, c);
+            coefficients(&points, m, a, b, c);
+        }
+        points[0] = i64::MIN;
+        for depth in [0, 3, REACH_DEPTH, REACH_DEPTH + 1, u32::MAX] {
+            assert_eq!(record(&points, depth), OUT_OF_REACH);
+            assert_eq!(bounds_of(&points, depth), (i128::MIN, i128::MAX));
+        }
+    }
+    let widest =
+        Limits { range: i64::MAX, depth: u32::MAX, nodes: usize::MAX, elements: usize::MAX };
+    let narrowest = Limits { range: i64::MIN, depth: 0, nodes: 0, elements: 0 };
+    let mut report = [JUNK; 8];
+    let extreme = [i32::MIN; 24];
+    for limits in [widest, narrowest] {
+        for depth in [0, 1, 7, u32::MAX] {
+            bounds(&limits, &extreme, depth);
+            inspect(&limits, &extreme, &[u32::MAX; 8], depth, &mut report);
+            inspect(&limits, &extreme, &IN_ORDER, depth, &mut report);
+        }
+        for level in [0, 31, 32, u32::MAX] {
+            for number in [0, 1, u32::MAX] {
+                let address = Address { level, a: number, b: number, c: number };
+                for n in 0..10 {
+                    address.child(n, &limits);
+                    address.corner(n, &limits);
+                }
+                address.parent(&limits);
+            }
+        }
+    }
+    assert_eq!(bounds(&narrowest, &extreme, 0).number, 6);
+    assert_eq!(bounds(&narrowest, &extreme, 1).number, 1);
+}
+
+/// Raised limits are followed, up to the reach: exact at its very edge.
+#[test]
+fn raised_limits() {
+    let limits = Limits { range: 1 << 25, depth: 5, nodes: 9, elements: 2 };
+    let big = cube(-(1 << 25), 1 << 25);
+    assert_eq!(bounds_of(&big, 6), (1i128 << (3 + 36 + 78), 1i128 << (3 + 36 + 78)));
+    assert_eq!(bounds(&limits, &narrow(&big), 5).number, 0);
+    assert_eq!(bounds(&limits, &narrow(&big), 6).number, 1);
+    let mut report = [JUNK; 8];
+    let answer = inspect(&limits, &narrow(&case('F')), &IN_ORDER, 5, &mut report);
+    assert_eq!(answer, counts(0, 0, 1, 0));
+    assert_eq!(report, record(&case('F'), 5));
+    assert_eq!(inspect(&limits, &[0; 30], &[], 0, &mut []).number, 2);
+    assert_eq!(inspect(&limits, &[0; 27], &[0; 24], 0, &mut []).number, 3);
+}
