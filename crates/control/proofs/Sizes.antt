@@ -8,6 +8,7 @@ use Rattle.foundation.specs.Lists.{all-append, all-image, all-every}
 use Rattle.foundation.specs.Polynomial.{Expr, var, integers, expressions, eval}
 use Rattle.foundation.specs.Bound.{bound, bound-is}
 use Rattle.foundation.specs.Words.{args, within}
+use Rattle.definitions.specs.Limits.{base}
 use Rattle.definitions.specs.Jacobian.{Nodes, nodesOf}
 use Rattle.definitions.specs.Coefficients.{edge, middle, cornerVolume, edgeVolume, volumes, cornerTetrahedra, edgeTetrahedra}
 use Rattle.control.specs.Range.{InRange, volumeLimit}
@@ -16,9 +17,9 @@ use Rattle.control.specs.Range.{InRange, volumeLimit}
 abbrev unknowns : Nodes Expr
 unknowns k e = var (3 * k + e)
 
-module _ {xs : List ℤ} (h : InRange 4096 xs) where
-  bounded : (f : Expr) → natAbs (eval (args xs) f) ≤ bound (λ _. 4096) f
-  bounded = bound-is (args xs) (λ _. 4096) (h .small)
+module _ {xs : List ℤ} (h : InRange (base .range) xs) where
+  bounded : (f : Expr) → natAbs (eval (args xs) f) ≤ bound (λ _. base .range) f
+  bounded = bound-is (args xs) (λ _. base .range) (h .small)
 
   pub edge-small : (a b e : ℕ) → natAbs (edge integers (nodesOf xs) a b e) ≤ 8192
   edge-small a b e = bounded (edge expressions unknowns a b e)

@@ -11,6 +11,7 @@ use mir.Val.{toZ, ofZ}
 use Rattle.foundation.specs.Polynomial.{integers}
 use Rattle.foundation.specs.Words.{Within}
 use Rattle.foundation.specs.Held.{Rep}
+use Rattle.definitions.specs.Limits.{base}
 use Rattle.definitions.specs.Jacobian.{nodesOf, det}
 use Rattle.definitions.specs.Coefficients.{edge, middle}
 use Rattle.control.specs.Range.{InRange, vector}
@@ -49,7 +50,7 @@ module _ {ux uy uz vx vy vz wx wy wz : ℕ} {u v w : ℕ → ℤ} (p : HeldVecto
 vector-held : (u : ℕ → ℤ) → ((e : ℕ) → natAbs (u e) ≤ 16384) → {x y z : ℤ} → x ≡ u 0 → y ≡ u 1 → z ≡ u 2 → HeldVector (ofZ w64 x) (ofZ w64 y) (ofZ w64 z) u
 vector-held u h p q r = record { on-x = answered 16384 p (h 0) tt; on-y = answered 16384 q (h 1) tt; on-z = answered 16384 r (h 2) tt }
 
-module _ {xs : List ℤ} (h : InRange 4096 xs) {x y z : ℤ} where
+module _ {xs : List ℤ} (h : InRange (base .range) xs) {x y z : ℤ} where
   pub edge-held : (a b : ℕ) → x ≡ edge integers (nodesOf xs) a b 0 → y ≡ edge integers (nodesOf xs) a b 1 → z ≡ edge integers (nodesOf xs) a b 2
       → HeldVector (ofZ w64 x) (ofZ w64 y) (ofZ w64 z) (edge integers (nodesOf xs) a b)
   edge-held a b = vector-held (edge integers (nodesOf xs) a b) (λ e. le-trans (edge-small h a b e) (lit≤ tt))

@@ -3,6 +3,7 @@ use mathlib.Core.List.{List, [], _∷_}
 use Prim.Native.Nat.{ℕ, _*_, _≤_}
 use lib.ListN.{getD}
 use lib.IntN.{ℤ, pos, natAbs}
+use Rattle.definitions.specs.Limits.{base}
 
 -- every number of the list lies in −limit..limit
 pub record InRange (limit : ℕ) (xs : List ℤ) : Type 0 where
@@ -15,6 +16,6 @@ Node n = (1 ≤ n) × (n ≤ 8)
 abbrev pub vector : ℤ → ℤ → ℤ → ℕ → ℤ
 vector x y z e = getD (x ∷ y ∷ z ∷ []) e (pos 0)
 
--- With coordinates in −4,096..4,096 an edge is at most 8,192, the sum of two at most 16,384, and a determinant has six products.
+-- An edge is at most twice the range, the sum of two edges at most four times, and a determinant has six products.
 abbrev pub volumeLimit : ℕ
-volumeLimit = 6 * (8192 * (16384 * 16384))
+volumeLimit = 6 * ((2 * base .range) * ((4 * base .range) * (4 * base .range)))

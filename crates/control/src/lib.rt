@@ -6,6 +6,7 @@ ghost use mathlib.Core.Path.{_≡_};
 ghost use Prim.Native.Nat.{_<_};
 ghost use Rattle.foundation.specs.Lists.{tabulate};
 ghost use Rattle.foundation.specs.Polynomial.{integers};
+ghost use Rattle.definitions.specs.Limits.{base};
 ghost use Rattle.definitions.specs.Coefficients.{row, dot, coefficients};
 ghost use Rattle.control.specs.Range.{InRange, volumeLimit};
 ghost use Rattle.control.specs.Table.{IsTable};
@@ -65,7 +66,7 @@ fn rows(table: &[i64; 540], v: &[i64; 20]) -> [i64; 27]
 
 // The 27 coefficients, times 8, in the order of their numbers. The eight points p are in place order, x, y, z of each. All of out is written.
 pub fn coefficients(p: &[i32; 24], out: &mut [i64; 27])
-    requires { ⌜ InRange 4096 (now p) ⌝ }
+    requires { ⌜ InRange (base .range) (now p) ⌝ }
     ensures { λ _. ⌜ now (out .exit) ≡ coefficients (now (p .entry)) ⌝ }
 {
     let t = table::copy();

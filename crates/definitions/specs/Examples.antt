@@ -1,6 +1,7 @@
 -- Document 01, "Elements to try": the starred lines, as a single list under one claim.
 use mathlib.Core.Path.{_≡_, refl}
 use mathlib.Core.List.{List, [], _∷_, _++_}
+use mathlib.Core.Option.{Option, none, some}
 use Prim.Native.Nat.{ℕ}
 use lib.IntN.{ℤ, pos, negsuc}
 use Rattle.foundation.specs.Lists.{All}
@@ -11,7 +12,7 @@ use Rattle.definitions.specs.Subdivision.{halve, child, children, whole}
 use Rattle.definitions.specs.Verdict.{cornersOf, coefficientsOf, lowPoint, lowCoefficient, lastLevel, validLevel, verdict, openedBelow, opened}
 use Rattle.definitions.specs.Bounds.{low, high}
 use Rattle.definitions.specs.Record.{recordOf}
-use Rattle.definitions.specs.Mesh.{refusal, pointsOf, outOfRange, faultOf, elementRecord, records, report, accepted, refused, badSpace, inspection, reportAfter, sound, faulty, stampOf, bounds, boundsOf}
+use Rattle.definitions.specs.Mesh.{refusal, pointsOf, outOfRange, faultOf, elementRecord, records, report, accepted, refused, badSpace, inspection, reportAfter, sound, faulty, stampOf, Bounds, bounds, boundsOf}
 
 -- A: the unit cube
 abbrev pub unitCube : List ℤ
@@ -56,37 +57,40 @@ inOrder = 0 ∷ 1 ∷ 2 ∷ 3 ∷ 4 ∷ 5 ∷ 6 ∷ 7 ∷ []
 abbrev pub missingFourth : List ℕ
 missingFourth = 0 ∷ 1 ∷ 2 ∷ 8 ∷ 4 ∷ 5 ∷ 6 ∷ 7 ∷ []
 
--- eight nodes, an element's indices, a depth, and the element's record at it
+-- eight nodes, an element's indices, a depth, the element's record at it and, where 01 gives them, the bounds of the eight nodes
 pub record Example : Type 0 where
   pub nodes : List ℤ
   pub indices : List ℕ
   pub depth : ℕ
   pub answer : List ℤ
+  pub limits : Option Bounds
 
 abbrev pub starred : List Example
 starred =
-    record { nodes = unitCube; indices = inOrder; depth = 0; answer = pos 0 ∷ pos 0 ∷ pos 0 ∷ pos 0 ∷ pos 0 ∷ pos 0 ∷ pos 0 ∷ pos 1 ∷ [] } ∷
-    record { nodes = onePoint; indices = inOrder; depth = 0; answer = pos 1 ∷ pos 0 ∷ pos 0 ∷ pos 0 ∷ pos 0 ∷ pos 1 ∷ pos 0 ∷ pos 1 ∷ [] } ∷
-    record { nodes = turned; indices = inOrder; depth = 0; answer = pos 1 ∷ pos 0 ∷ pos 0 ∷ pos 0 ∷ pos 0 ∷ pos 1 ∷ negsuc 7 ∷ pos 1 ∷ [] } ∷
-    record { nodes = quarterTwist; indices = inOrder; depth = 0; answer = pos 2 ∷ pos 0 ∷ pos 0 ∷ pos 0 ∷ pos 0 ∷ pos 13 ∷ pos 0 ∷ pos 1 ∷ [] } ∷
-    record { nodes = quarterTwist; indices = inOrder; depth = 1; answer = pos 0 ∷ pos 1 ∷ pos 0 ∷ pos 0 ∷ pos 0 ∷ pos 0 ∷ pos 0 ∷ pos 9 ∷ [] } ∷
-    record { nodes = halfTwist; indices = inOrder; depth = 0; answer = pos 2 ∷ pos 0 ∷ pos 0 ∷ pos 0 ∷ pos 0 ∷ pos 13 ∷ negsuc 31 ∷ pos 1 ∷ [] } ∷
-    record { nodes = halfTwist; indices = inOrder; depth = 1; answer = pos 1 ∷ pos 1 ∷ pos 0 ∷ pos 0 ∷ pos 1 ∷ pos 5 ∷ pos 0 ∷ pos 2 ∷ [] } ∷
-    record { nodes = wideTwist; indices = inOrder; depth = 0; answer = pos 2 ∷ pos 0 ∷ pos 0 ∷ pos 0 ∷ pos 0 ∷ pos 13 ∷ negsuc 63 ∷ pos 1 ∷ [] } ∷
-    record { nodes = dented; indices = inOrder; depth = 0; answer = pos 1 ∷ pos 0 ∷ pos 0 ∷ pos 0 ∷ pos 0 ∷ pos 1 ∷ pos 0 ∷ pos 1 ∷ [] } ∷
-    record { nodes = tooFar; indices = inOrder; depth = 0; answer = pos 6 ∷ pos 3 ∷ pos 2 ∷ pos 0 ∷ pos 0 ∷ pos 0 ∷ pos 0 ∷ pos 0 ∷ [] } ∷
-    record { nodes = largest; indices = inOrder; depth = 0; answer = pos 0 ∷ pos 0 ∷ pos 0 ∷ pos 0 ∷ pos 0 ∷ pos 0 ∷ pos 0 ∷ pos 1 ∷ [] } ∷
-    record { nodes = unitCube; indices = missingFourth; depth = 0; answer = pos 5 ∷ pos 4 ∷ pos 8 ∷ pos 0 ∷ pos 0 ∷ pos 0 ∷ pos 0 ∷ pos 0 ∷ [] } ∷ []
+    record { nodes = unitCube; indices = inOrder; depth = 0; answer = pos 0 ∷ pos 0 ∷ pos 0 ∷ pos 0 ∷ pos 0 ∷ pos 0 ∷ pos 0 ∷ pos 1 ∷ []; limits = none } ∷
+    record { nodes = onePoint; indices = inOrder; depth = 0; answer = pos 1 ∷ pos 0 ∷ pos 0 ∷ pos 0 ∷ pos 0 ∷ pos 1 ∷ pos 0 ∷ pos 1 ∷ []; limits = none } ∷
+    record { nodes = turned; indices = inOrder; depth = 0; answer = pos 1 ∷ pos 0 ∷ pos 0 ∷ pos 0 ∷ pos 0 ∷ pos 1 ∷ negsuc 7 ∷ pos 1 ∷ []; limits = none } ∷
+    record { nodes = quarterTwist; indices = inOrder; depth = 0; answer = pos 2 ∷ pos 0 ∷ pos 0 ∷ pos 0 ∷ pos 0 ∷ pos 13 ∷ pos 0 ∷ pos 1 ∷ []; limits = none } ∷
+    record { nodes = quarterTwist; indices = inOrder; depth = 1; answer = pos 0 ∷ pos 1 ∷ pos 0 ∷ pos 0 ∷ pos 0 ∷ pos 0 ∷ pos 0 ∷ pos 9 ∷ []; limits = some (bounds (pos 1024) (pos 1024)) } ∷
+    record { nodes = halfTwist; indices = inOrder; depth = 0; answer = pos 2 ∷ pos 0 ∷ pos 0 ∷ pos 0 ∷ pos 0 ∷ pos 13 ∷ negsuc 31 ∷ pos 1 ∷ []; limits = none } ∷
+    record { nodes = halfTwist; indices = inOrder; depth = 1; answer = pos 1 ∷ pos 1 ∷ pos 0 ∷ pos 0 ∷ pos 1 ∷ pos 5 ∷ pos 0 ∷ pos 2 ∷ []; limits = none } ∷
+    record { nodes = wideTwist; indices = inOrder; depth = 0; answer = pos 2 ∷ pos 0 ∷ pos 0 ∷ pos 0 ∷ pos 0 ∷ pos 13 ∷ negsuc 63 ∷ pos 1 ∷ []; limits = none } ∷
+    record { nodes = dented; indices = inOrder; depth = 0; answer = pos 1 ∷ pos 0 ∷ pos 0 ∷ pos 0 ∷ pos 0 ∷ pos 1 ∷ pos 0 ∷ pos 1 ∷ []; limits = none } ∷
+    record { nodes = tooFar; indices = inOrder; depth = 0; answer = pos 6 ∷ pos 3 ∷ pos 2 ∷ pos 0 ∷ pos 0 ∷ pos 0 ∷ pos 0 ∷ pos 0 ∷ []; limits = none } ∷
+    record { nodes = largest; indices = inOrder; depth = 0; answer = pos 0 ∷ pos 0 ∷ pos 0 ∷ pos 0 ∷ pos 0 ∷ pos 0 ∷ pos 0 ∷ pos 1 ∷ []; limits = none } ∷
+    record { nodes = unitCube; indices = missingFourth; depth = 0; answer = pos 5 ∷ pos 4 ∷ pos 8 ∷ pos 0 ∷ pos 0 ∷ pos 0 ∷ pos 0 ∷ pos 0 ∷ []; limits = none } ∷ []
 
 -- The one claim.
-pub starred-hold : All (λ e. elementRecord base (e .nodes) (e .indices) (e .depth) ≡ e .answer) starred
-unfolding jacobian held numbered at coefficients halve child children whole cornersOf coefficientsOf lowPoint lowCoefficient lastLevel validLevel verdict openedBelow opened recordOf pointsOf outOfRange faultOf elementRecord
-starred-hold = (refl, (refl, (refl, (refl, (refl, (refl, (refl, (refl, (refl, (refl, (refl, (refl, tt))))))))))))
+abbrev pub Bounded : List ℤ → ℕ → Option Bounds → Type 0
+Bounded xs D none = Unit
+Bounded xs D (some b) = boundsOf base xs D ≡ b
 
--- D at depth 1: "bounds 1,024 and 1,024"
-pub twist-bounds : boundsOf base quarterTwist 1 ≡ bounds (pos 1024) (pos 1024)
-unfolding jacobian held numbered at coefficients halve child children whole cornersOf coefficientsOf low high outOfRange boundsOf
-twist-bounds = refl
+abbrev pub Holds : Example → Type 0
+Holds e = (elementRecord base (e .nodes) (e .indices) (e .depth) ≡ e .answer) × Bounded (e .nodes) (e .depth) (e .limits)
+
+pub starred-hold : All Holds starred
+unfolding jacobian held numbered at coefficients halve child children whole cornersOf coefficientsOf lowPoint lowCoefficient lastLevel validLevel verdict openedBelow opened low high recordOf pointsOf outOfRange faultOf elementRecord boundsOf
+starred-hold = ((refl, tt), ((refl, tt), ((refl, tt), ((refl, tt), ((refl, refl), ((refl, tt), ((refl, tt), ((refl, tt), ((refl, tt), ((refl, tt), ((refl, tt), ((refl, tt), tt))))))))))))
 
 -- ---- a mesh of two elements, the second with a missing node, and room for 16 words
 abbrev pub twoElements : List ℕ

@@ -1,5 +1,4 @@
 pub mod Meaning
-pub mod Points
 pub mod Reports
 pub mod Answers
 pub mod Promise

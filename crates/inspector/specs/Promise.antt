@@ -46,14 +46,26 @@ words-are L m e xs h = ap (λ (r : List ℤ). take 8 (drop (8 * e) r)) (accepted
     ∙ report-part L (m .coordinates) (m .indices) (m .depth) e (h .is-element)
     ∙ element-points L (m .coordinates) (indicesOf m e) (m .depth) (h .not-refused) ∙ ap (λ (ys : List ℤ). recordOf ys (m .depth)) (h .points)
 
+-- The bounds service at two depths, the first no greater: "the low bound does not fall and the high bound does not rise, at one scale".
+pub record BoundsKept (L : Limits) (xs : List ℤ) (D D′ : ℕ) : Type 0 where
+  pub here : boundsOf L xs D ≡ bounds (low xs D) (high xs D)
+  pub there : boundsOf L xs D′ ≡ bounds (low xs D′) (high xs D′)
+  pub low-bound : (pos (64 ^ (D′ - D)) *ℤ low xs D) ≤ℤ low xs D′
+  pub high-bound : high xs D′ ≤ℤ (pos (64 ^ (D′ - D)) *ℤ high xs D)
+
+pub bounds-kept : (L : Limits) (xs : List ℤ) (D D′ : ℕ) → D ≤ D′ → D′ ≤ L .depth → outOfRange L xs ≡ none → BoundsKept L xs D D′
+bounds-kept L xs D D′ l deep inside = let look = closer-look xs D D′ l in record {
+  here = bounds-inside L xs D (omega arith) inside;
+  there = bounds-inside L xs D′ deep inside;
+  low-bound = look .low-bound;
+  high-bound = look .high-bound;
+}
+
 -- Two looks at the same points, the first no deeper: in meshes m and m′, and by the bounds service.
 pub record Kept (L : Limits) (xs : List ℤ) (m : Mesh) (e : ℕ) (m′ : Mesh) (e′ : ℕ) : Type 0 where
   pub same : (first (wordsOf L m e) ≡ pos 0) ⊎ (first (wordsOf L m e) ≡ pos 1) → wordsOf L m′ e′ ≡ wordsOf L m e
   pub positive : first (wordsOf L m e) ≡ pos 0 → (M a b c : ℕ) → a ≤ 2 ^ M → b ≤ 2 ^ M → c ≤ 2 ^ M → pos 0 <ℤ jacobian xs M a b c
-  pub bounds-here : boundsOf L xs (m .depth) ≡ bounds (low xs (m .depth)) (high xs (m .depth))
-  pub bounds-there : boundsOf L xs (m′ .depth) ≡ bounds (low xs (m′ .depth)) (high xs (m′ .depth))
-  pub low-bound : (pos (64 ^ (m′ .depth - m .depth)) *ℤ low xs (m .depth)) ≤ℤ low xs (m′ .depth)
-  pub high-bound : high xs (m′ .depth) ≤ℤ (pos (64 ^ (m′ .depth - m .depth)) *ℤ high xs (m .depth))
+  pub both-bounds : BoundsKept L xs (m .depth) (m′ .depth)
 
 pub kept : (L : Limits) (xs : List ℤ) (m : Mesh) (e : ℕ) (m′ : Mesh) (e′ : ℕ) → Stands L m e xs → Stands L m′ e′ xs → m .depth ≤ m′ .depth → Kept L xs m e m′ e′
 kept L xs m e m′ e′ h h′ l =
@@ -63,18 +75,15 @@ kept L xs m e m′ e′ h h′ l =
     record {
       same = λ s. w′ ∙ look .same (settled s w) ∙ sym w;
       positive = λ s. look .positive (inl (ap first (sym w) ∙ s));
-      bounds-here = bounds-inside L xs (m .depth) (deep m e h) (inside m e h);
-      bounds-there = bounds-inside L xs (m′ .depth) (deep m′ e′ h′) (inside m′ e′ h′);
-      low-bound = look .low-bound;
-      high-bound = look .high-bound;
+      both-bounds = bounds-kept L xs (m .depth) (m′ .depth) l deep inside;
     }
   where
     settled : (first (wordsOf L m e) ≡ pos 0) ⊎ (first (wordsOf L m e) ≡ pos 1) → wordsOf L m e ≡ recordOf xs (m .depth) → (first (recordOf xs (m .depth)) ≡ pos 0) ⊎ (first (recordOf xs (m .depth)) ≡ pos 1)
     settled (inl s) w = inl (ap first (sym w) ∙ s)
     settled (inr s) w = inr (ap first (sym w) ∙ s)
 
-    deep : (n : Mesh) (k : ℕ) → Stands L n k xs → n .depth ≤ L .depth
-    deep n k s = accepted-mesh L (length (n .coordinates)) (length (n .indices)) (length (n .space)) (n .depth) (s .is-accepted) .depth
+    deep : m′ .depth ≤ L .depth
+    deep = accepted-mesh L (length (m′ .coordinates)) (length (m′ .indices)) (length (m′ .space)) (m′ .depth) (h′ .is-accepted) .depth
 
-    inside : (n : Mesh) (k : ℕ) → Stands L n k xs → outOfRange L xs ≡ none
-    inside n k s = ap (outOfRange L) (sym (s .points)) ∙ whole-element L (n .coordinates) (indicesOf n k) (s .not-refused) .points
+    inside : outOfRange L xs ≡ none
+    inside = ap (outOfRange L) (sym (h .points)) ∙ whole-element L (m .coordinates) (indicesOf m e) (h .not-refused) .points

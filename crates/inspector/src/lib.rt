@@ -46,7 +46,7 @@ pub enum Bounds {
 
 // The record of eight points that are all in range.
 fn points_record(p: &[i32; 24], depth: u32, t: &[usize; 81]) -> [i64; 8]
-    requires { ⌜ InRange 4096 (now p) × (now t ≡ rows) × (depth ≤ base .depth) ⌝ }
+    requires { ⌜ InRange (base .range) (now p) × (now t ≡ rows) × (depth ≤ base .depth) ⌝ }
     ensures { λ r. ⌜ r ≡ recordOf (now (p .entry)) depth ⌝ }
 {
     let mut g = [0i64; 27];
@@ -146,7 +146,7 @@ pub fn stamp_of(answer: Inspection) -> Stamp
 
 // Both bounds of points that are in range.
 fn points_bounds(p: &[i32; 24], depth: u32) -> Extremes
-    requires { ⌜ InRange 4096 (now p) × (depth ≤ base .depth) ⌝ }
+    requires { ⌜ InRange (base .range) (now p) × (depth ≤ base .depth) ⌝ }
     ensures { λ r. ⌜ extremesOf r ≡ boundsAt (now (p .entry)) depth ⌝ }
 {
     let t = subdivision::table();
@@ -159,7 +159,7 @@ fn points_bounds(p: &[i32; 24], depth: u32) -> Extremes
 pub fn bounds_of(p: [i32; 24], depth: u32) -> Bounds
     ensures { λ r. ⌜ boundsHeld r ≡ boundsOf base p depth ⌝ }
 {
-    if 3 < depth {
+    if address::MAX_DEPTH < depth {
         return Bounds::TooDeep;
     }
     let first = mesh::out_of_range(&p);

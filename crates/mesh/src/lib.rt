@@ -12,9 +12,7 @@ ghost use Rattle.definitions.specs.Mesh.{wellSized, refusal, usable, pointsOf, 
 ghost use Rattle.mesh.specs.Meaning.{checkOf, firstOf, missingIndex, elementOf, refusedWords, countsHeld};
 ghost use Rattle.verdict.specs.Elements.{total};
 
-// The limits of the definitions' `base`.
-pub const MAX_DEPTH: u32 = 3;
-
+// The limits of the definitions' `base`; the greatest depth is `address`'s.
 pub const MAX_NODES: usize = 5000;
 
 pub const MAX_ELEMENTS: usize = 1000;
@@ -69,7 +67,7 @@ fn well_sized(n: usize, group: usize, most: usize) -> bool
 pub fn check(coordinates: usize, indices: usize, space: usize, depth: u32) -> Checked
     ensures { λ r. ⌜ checkOf r ≡ refusal base coordinates indices space depth ⌝ }
 {
-    if MAX_DEPTH < depth {
+    if address::MAX_DEPTH < depth {
         return Checked::DepthTooGreat;
     }
     if !well_sized(coordinates, 3, MAX_NODES) {

@@ -3,3 +3,4 @@ pub mod Lowest
 pub mod Visit
 pub mod Bounds
 pub mod Levels
+pub mod Points

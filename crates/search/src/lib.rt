@@ -16,6 +16,7 @@ ghost use Rattle.definitions.specs.Coefficients.{coefficients};
 ghost use Rattle.definitions.specs.Record.{words, verdictWords, recordOf};
 ghost use Rattle.subdivision.specs.Children.{Control};
 ghost use Rattle.search.specs.Bounds.{extremesOf, withControl, boundsAt};
+ghost use Rattle.search.specs.Points.{OfPoints};
 ghost use Rattle.search.specs.Levels.{wholeAddress, wholeOf, fresh, isBlocked, outcome};
 use address::Address;
 use address::Moved;
@@ -253,7 +254,7 @@ fn settle(level: u32, r: Pass) -> [i64; 8]
 
 // The record of the eight points with these coefficients: a pass of level 0, 1, .. while only low coefficients are found.
 pub fn record(g: &[i64], depth: u32, t: &[usize; 81]) -> [i64; 8]
-    requires { ⌜ Control (size 0) (now g) × (now t ≡ rows) × (depth ≤ base .depth) ⌝ }
+    requires { ⌜ OfPoints (now g) × (now t ≡ rows) × (depth ≤ base .depth) ⌝ }
     ensures { λ w. ⌜ ((xs : List ℤ) → now (g .entry) ≡ coefficients xs → w ≡ recordOf xs depth) ⌝ }
 {
     let mut m: u32 = 0;
@@ -327,7 +328,7 @@ pub fn survey(g: &[i64], q: Address, left: u32, t: &[usize; 81], r: Extremes) ->
 
 // Both bounds of the eight points with these coefficients, from the greatest number, which no coefficient passes.
 pub fn bounds(g: &[i64], depth: u32, t: &[usize; 81]) -> Extremes
-    requires { ⌜ Control (size 0) (now g) × (now t ≡ rows) × (depth ≤ base .depth) ⌝ }
+    requires { ⌜ OfPoints (now g) × (now t ≡ rows) × (depth ≤ base .depth) ⌝ }
     ensures { λ r. ⌜ ((xs : List ℤ) → now (g .entry) ≡ coefficients xs → ((i : ℕ) → natAbs (getD xs i (pos 0)) ≤ base .range) → extremesOf r ≡ boundsAt xs depth) ⌝ }
 {
     survey(

@@ -6,7 +6,7 @@ use lib.IntN.{pos}
 use Rattle.foundation.specs.Lists.{All, all-map}
 use Rattle.definitions.specs.Limits.{base}
 use Rattle.definitions.specs.Mesh.{elementRecord}
-use Rattle.definitions.specs.Examples.{Example, starred, starred-hold}
+use Rattle.definitions.specs.Examples.{Example, Holds, starred, starred-hold}
 use Rattle.verdict.specs.CloserLook.{first}
 use Rattle.verdict.specs.Elements.{element-same}
 
@@ -14,8 +14,8 @@ abbrev pub Reaches : Example → ℕ → Type 0
 Reaches e D = (e .depth ≡ D) ⊎ ((e .depth ≤ D) × ((first (e .answer) ≡ pos 2) → ⊥))
 
 pub starred-at-depth : All (λ e. (D : ℕ) → Reaches e D → elementRecord base (e .nodes) (e .indices) D ≡ e .answer) starred
-starred-at-depth = all-map (λ e. elementRecord base (e .nodes) (e .indices) (e .depth) ≡ e .answer) (λ e. (D : ℕ) → Reaches e D → elementRecord base (e .nodes) (e .indices) D ≡ e .answer) reach starred starred-hold
+starred-at-depth = all-map Holds (λ e. (D : ℕ) → Reaches e D → elementRecord base (e .nodes) (e .indices) D ≡ e .answer) reach starred starred-hold
   where
-    reach : (e : Example) → elementRecord base (e .nodes) (e .indices) (e .depth) ≡ e .answer → (D : ℕ) → Reaches e D → elementRecord base (e .nodes) (e .indices) D ≡ e .answer
-    reach e h D (inl q) = subst (λ (d : ℕ). elementRecord base (e .nodes) (e .indices) d ≡ e .answer) q h
-    reach e h D (inr q) = element-same base (e .nodes) (e .indices) (e .depth) D (q .0) (λ p. q .1 (sym (ap first h) ∙ p)) ∙ h
+    reach : (e : Example) → Holds e → (D : ℕ) → Reaches e D → elementRecord base (e .nodes) (e .indices) D ≡ e .answer
+    reach e h D (inl q) = subst (λ (d : ℕ). elementRecord base (e .nodes) (e .indices) d ≡ e .answer) q (h .0)
+    reach e h D (inr q) = element-same base (e .nodes) (e .indices) (e .depth) D (q .0) (λ p. q .1 (sym (ap first (h .0)) ∙ p)) ∙ h .0

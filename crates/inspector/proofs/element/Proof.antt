@@ -34,7 +34,7 @@ points-record-requires c κs =
     let s = e .before .before .before .before in
     let coordinates = now (s .args .coordinates) in
     let ix = now (s .args .ix) in (
-      subst (InRange 4096) (sym (c .before .gather .ensures)) (record { small = read-within base (pointsOf coordinates ix) (whole-element base coordinates ix (no-fault e) .points) (length-points coordinates ix) }),
+      subst (InRange (base .range)) (sym (c .before .gather .ensures)) (record { small = read-within base (pointsOf coordinates ix) (whole-element base coordinates ix (no-fault e) .points) (length-points coordinates ix) }),
       s .pre .1,
       s .pre .2,
     )

@@ -3,7 +3,6 @@ use mathlib.Core.Path.{sym, ap, _∙_}
 use lib.ListN.{length}
 use denote.Ref.{now}
 use Rattle.expansion.specs.Expansion.{length-coefficients}
-use Rattle.inspector.specs.Points.{points-control}
 use borrow.Author.Needs.{needs}
 use Rattle.inspector.proofs.points_bounds.Statement.{statement}
 use Rattle.inspector.proofs.points_bounds.Tie as tie
@@ -19,7 +18,7 @@ slice-aggregate-bounds c = sym (ap length (c .before .coefficients .ensures) ∙
 
 bounds-requires : tie.Need-bounds-requires
 bounds-requires c κs = let s = c .before .before .before .before .before in
-    (points-control (now (s .args .p)) (s .pre .0 .small) _ (c .before .before .coefficients .ensures), c .before .before .before .before .table .ensures, s .pre .1)
+    (record { points = now (s .args .p); inside = s .pre .0 .small; expanded = c .before .before .coefficients .ensures }, c .before .before .before .before .table .ensures, s .pre .1)
 
 returns : tie.Need-returns
 returns c = let s = c .before .before .before .before .before .before in

@@ -3,7 +3,6 @@ use mathlib.Core.Path.{sym, ap, _∙_}
 use lib.ListN.{length}
 use denote.Ref.{now}
 use Rattle.expansion.specs.Expansion.{length-coefficients}
-use Rattle.inspector.specs.Points.{points-control}
 use borrow.Author.Needs.{needs}
 use Rattle.inspector.proofs.points_record.Statement.{statement}
 use Rattle.inspector.proofs.points_record.Tie as tie
@@ -16,7 +15,7 @@ slice-aggregate-record c = sym (ap length (c .before .coefficients .ensures) ∙
 
 record-requires : tie.Need-record-requires
 record-requires c κs = let s = c .before .before .before in
-    (points-control (now (s .args .p)) (s .pre .0 .small) _ (c .before .coefficients .ensures), s .pre .1, s .pre .2)
+    (record { points = now (s .args .p); inside = s .pre .0 .small; expanded = c .before .coefficients .ensures }, s .pre .1, s .pre .2)
 
 returns : tie.Need-returns
 returns c = c .«record» .ensures (now (c .before .before .before .before .args .p)) (c .before .before .coefficients .ensures)

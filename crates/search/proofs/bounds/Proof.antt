@@ -3,6 +3,7 @@ use mathlib.Core.Path.{ap, _∙_}
 use denote.Ref.{now}
 use Rattle.definitions.specs.Subdivision.{Cell}
 use Rattle.verdict.specs.Extremes.{extremes}
+use Rattle.search.specs.Points.{points-control}
 use Rattle.search.specs.Levels.{whole-room, whole-cell}
 use Rattle.search.specs.Bounds.{greatest, bounds-are}
 use borrow.Author.Needs.{needs}
@@ -14,7 +15,7 @@ whole-requires c κs = search needs
 
 survey-requires : tie.Need-survey-requires
 survey-requires c κs = let s = c .before in
-    (whole-room (c .whole .result) (now (s .args .g)) (s .args .depth) (c .whole .ensures) (s .pre .0) (s .pre .2), s .pre .1)
+    (whole-room (c .whole .result) (now (s .args .g)) (s .args .depth) (c .whole .ensures) (points-control (now (s .args .g)) (s .pre .0)) (s .pre .2), s .pre .1)
 
 returns : tie.Need-returns
 returns c xs e h = let s = c .before .before in
