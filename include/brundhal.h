@@ -2,7 +2,7 @@
  *
  * The library decides in whole numbers, without rounding, whether the Jacobian
  * determinant of trilinear hexahedra is positive. Its code is proved against
- * the definitions of document 01 ("the paper"), which lays down every answer.
+ * definitions that lay down every answer (crates/definitions).
  * Link with libbrundhal.a; no other library is needed but the C library's
  * memory functions (memset and the like).
  *

@@ -545,7 +545,8 @@ pub const TABLE: [i64; 540] = [
     1,
 ];
 
-// A copy of the table, to be made once and lent: a constant is built anew wherever it is read.
+// A copy of the table, lent to the 27 rows of an element. Each row is a call with its number written out, so that the compiler reads the
+// entries itself and makes no copy.
 pub fn copy() -> [i64; 540]
     ensures { λ r. ⌜ IsTable r ⌝ }
 {

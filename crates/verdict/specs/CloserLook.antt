@@ -1,4 +1,4 @@
--- Demand 3, whole: a closer look never takes back what was sold.
+-- Promise 3 of docs/TRUST.md, whole: a closer look never takes back what was sold.
 use mathlib.Core.Path.{_≡_, refl, sym, _∙_, ap, subst}
 use mathlib.Core.List.{List, [], _∷_}
 use mathlib.Core.Logic.{_⊎_, inl, inr}

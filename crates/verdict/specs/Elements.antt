@@ -1,4 +1,4 @@
--- The elements of a mesh: demand 3 for what the report says of each; the report's words and the counts.
+-- The elements of a mesh: promise 3 for what the report says of each; the report's words and the counts.
 use mathlib.Core.Path.{_≡_, refl, sym, _∙_, ap, ap₂, subst}
 use mathlib.Core.Bool.{Bool, true, false}
 use mathlib.Core.List.{List, [], _∷_, _++_}

@@ -1,5 +1,6 @@
 //! The worked cases of 01 and the figures of the paper.
 
+use crate::check::only_record;
 use crate::draw::narrow;
 use crate::program::IN_ORDER;
 use crate::question::Question;
@@ -41,6 +42,26 @@ impl Case {
     pub fn is_whole(&self) -> bool {
         self.indices == IN_ORDER && self.points.iter().all(|x| x.unsigned_abs() <= 4096)
     }
+
+    fn not_as_printed(&self, question: &Question, words: &[i64]) -> Option<String> {
+        let (said, printed) = match question {
+            Question::Inspect { depth, .. } if *question == self.question(*depth) => {
+                let (_, record) = self.records.iter().find(|(at, _)| at.contains(depth))?;
+                (only_record(words), record.to_vec())
+            }
+            Question::Bounds { depth, points } if *points == self.points => {
+                let (_, low, high) = self.bounds.filter(|(at, ..)| at == depth)?;
+                (words, vec![0, low, high])
+            }
+            _ => return None,
+        };
+        (said != printed).then(|| format!("case {}: {said:?}, in 01 {printed:?}", self.name))
+    }
+}
+
+/// Where the answer to a worked case is not the one that 01 prints.
+pub fn not_as_printed(question: &Question, words: &[i64]) -> Option<String> {
+    cases().iter().find_map(|case| case.not_as_printed(question, words))
 }
 
 const ALL: [u32; 4] = [0, 1, 2, 3];

@@ -3,6 +3,7 @@
 
 use crate::program::{Answer, AtDepth, Program, PATTERN};
 use crate::question::Question;
+use second::specimens::Shaker;
 use std::fmt;
 
 /// The two programs, or one program and the rules, do not agree.
@@ -141,13 +142,19 @@ fn difference(first: &Words, second: &Words) -> Option<String> {
 
 // ------------------------------------------------------------- over depths --
 
+/// The largest depth: the first program is held over the depths up to it,
+/// whatever depth a question asks of both.
+const LARGEST_DEPTH: u32 = 3;
+
 /// 01's demand 3 for one element, from the lesser depth's words and the next
-/// depth's: a decision stays, word for word, and the bounds only close in.
+/// depth's: a decision stays, word for word, and so does a refusal, which reads
+/// no depth; the bounds only close in.
 /// "Bounds of two depths are compared after the lesser depth's are multiplied
 /// by 64 for each level between."
 fn between_depths(lesser: &AtDepth, greater: &AtDepth) -> Option<String> {
-    if matches!(lesser.record[0], 0 | 1) && lesser.record != greater.record {
-        return Some(format!("{:?} became {:?}", lesser.record, greater.record));
+    if lesser.record[0] != 2 && lesser.record != greater.record {
+        let (old, new) = (lesser.record, greater.record);
+        return Some(format!("{old:?} became {new:?} at a greater depth"));
     }
     let scaled = |bound: i64| 64 * i128::from(bound);
     let ((_, low, high), (_, next_low, next_high)) = (lesser.bounds, greater.bounds);
@@ -161,29 +168,70 @@ fn between_depths(lesser: &AtDepth, greater: &AtDepth) -> Option<String> {
 }
 
 /// The verdict as the bounds show it: invalid with high <= 0, valid with
-/// low > 0, undecided otherwise.
+/// low > 0, undecided otherwise; and a refused element has no bounds.
 fn verdict_and_bounds(at: &AtDepth) -> Option<String> {
-    let (_, low, high) = at.bounds;
-    let kind = match (high <= 0, low > 0) {
-        (true, _) => 1,
-        (false, true) => 0,
-        (false, false) => 2,
+    let (number, low, high) = at.bounds;
+    let kind = match (number, high <= 0, low > 0) {
+        (0, true, _) => 1,
+        (0, false, true) => 0,
+        (0, false, false) => 2,
+        _ => i64::from(number),
     };
     let apart = at.record[0] != kind || low > high;
-    apart.then(|| format!("record {:?} with low {low} and high {high}", at.record))
+    apart.then(|| format!("record {:?} with bounds {number}, {low} and {high}", at.record))
 }
 
-fn over_depths_fault(seen: &[AtDepth]) -> Option<String> {
+/// Grid points drawn at each of the levels 4, 5 and 6.
+pub const POINTS_A_LEVEL: usize = 16;
+
+/// Demand 3 of a valid element: J is above 0 at the grid points of every level,
+/// past the largest depth too.  Some are drawn, often on a face or an edge, by
+/// a seed made of the element's points: the same element draws them again.
+fn not_positive(points: &[i32; 24]) -> Option<String> {
+    let mixed = |seed: u64, &x: &i32| seed.wrapping_mul(0x9E37_79B9_7F4A_7C15) ^ x as u64;
+    let mut shaker = Shaker::new(points.iter().fold(0, mixed));
+    for level in [4, 5, 6].repeat(POINTS_A_LEVEL) {
+        let steps = 1i64 << level;
+        let mut number = || shaker.between(-steps / 2, steps * 3 / 2).clamp(0, steps) as u64;
+        let (a, b, c) = (number(), number(), number());
+        let held = second::jacobian(&points.map(i64::from), level, a, b, c);
+        if held <= 0 {
+            return Some(format!("valid, and J is {held}/64^{level} at ({a}, {b}, {c})/2^{level}"));
+        }
+    }
+    None
+}
+
+/// Demand 3 for one element, seen at every depth; its points, if it has eight.
+fn over_depths_fault(points: Option<&[i32; 24]>, seen: &[AtDepth]) -> Option<String> {
+    let valid = seen.iter().any(|at| at.record[0] == 0);
     let steps = seen.windows(2).find_map(|pair| between_depths(&pair[0], &pair[1]));
-    steps.or_else(|| seen.iter().find_map(verdict_and_bounds))
+    steps
+        .or_else(|| seen.iter().find_map(verdict_and_bounds))
+        .or_else(|| not_positive(points.filter(|_| valid)?))
 }
 
-/// A mesh at two depths: "record with word 0 in {0, 1}" stays, and so does a
-/// refused element's, which reads no depth.
-fn mesh_between_depths(lesser: &[i64], greater: &[i64]) -> Option<String> {
-    let changed = |(old, new): &(&[i64], &[i64])| old[0] != 2 && old != new;
-    let (old, new) = lesser.chunks_exact(8).zip(greater.chunks_exact(8)).find(changed)?;
-    Some(format!("{old:?} became {new:?} at a greater depth"))
+/// Demand 3 for every element of an accepted mesh: its records in the reports
+/// of all depths, and the bounds of its points.
+fn mesh_over_depths_fault(
+    program: &dyn Program,
+    coordinates: &[i32],
+    indices: &[u32],
+) -> Option<String> {
+    let at = |depth| inspected(program, coordinates, indices, depth, indices.len());
+    let meshes: Vec<Inspected> = (0..=LARGEST_DEPTH).map(at).collect();
+    indices.chunks_exact(8).enumerate().find_map(|(number, element)| {
+        let points = second::points_of(coordinates, element);
+        let at_depth = |(depth, mesh): (u32, &Inspected)| AtDepth {
+            answer: mesh.answer,
+            record: std::array::from_fn(|word| mesh.report()[8 * number + word]),
+            // an index that names no node is refusal 5
+            bounds: points.map_or((5, 0, 0), |points| program.bounds(&points, depth)),
+        };
+        let seen: Vec<AtDepth> = (0..).zip(&meshes).map(at_depth).collect();
+        let what = over_depths_fault(points.as_ref(), &seen)?;
+        Some(format!("element {number} from 0: {what}"))
+    })
 }
 
 // ------------------------------------------------------------------ asking --
@@ -203,7 +251,8 @@ fn compared(
 }
 
 /// Asks both programs; every word of the first one's answer, if they agree and
-/// the rules over depths hold.
+/// the rules over depths hold of the first.  They are tested at all depths on
+/// an accepted mesh, an element, and bounds that are not refused.
 pub fn ask(
     first: &dyn Program,
     second: &dyn Program,
@@ -218,18 +267,28 @@ pub fn ask(
             let ask = |program: &dyn Program| {
                 inspected_words(&inspected(program, coordinates, indices, *depth, *space))
             };
-            compared(question, ask, first, second)
+            let words = compared(question, ask, first, second)?;
+            if words[0] == 0 {
+                fault(mesh_over_depths_fault(first, coordinates, indices))?;
+            }
+            Ok(words)
         }
         Question::Element { depth, points } => {
-            let answer = first.over_depths(points, *depth);
-            let words = over_depths_words(&answer);
-            fault(difference(&words, &over_depths_words(&second.over_depths(points, *depth))))?;
-            fault(over_depths_fault(&answer))?;
-            Ok(words.words)
+            let seen = first.over_depths(points, LARGEST_DEPTH);
+            let asked = &seen[..seen.len().min(*depth as usize + 1)];
+            let others = second.over_depths(points, *depth);
+            fault(difference(&over_depths_words(asked), &over_depths_words(&others)))?;
+            fault(over_depths_fault(Some(points), &seen))?;
+            Ok(over_depths_words(&seen).words)
         }
         Question::Bounds { depth, points } => {
             let ask = |program: &dyn Program| bounds_words(program.bounds(points, *depth));
-            compared(question, ask, first, second)
+            let words = compared(question, ask, first, second)?;
+            if words[0] == 0 {
+                let seen = first.over_depths(points, LARGEST_DEPTH);
+                fault(over_depths_fault(Some(points), &seen))?;
+            }
+            Ok(words)
         }
         Question::Child { address, n } => {
             let ask = |program: &dyn Program| move_words(program.child(*address, *n));
@@ -250,32 +309,13 @@ pub fn ask(
     }
 }
 
-/// The record at the greatest depth asked of an element, from its words.
+/// The first program's record at the largest depth, from an element's words.
 pub fn last_record(words: &[i64]) -> [i64; 8] {
     let last = words.len() - PER_DEPTH;
     std::array::from_fn(|word| words[last + 5 + word])
 }
 
-/// A mesh of some depth in 0..3: the records of the first program at every
-/// depth, held together.
-pub fn mesh_over_depths(
-    first: &dyn Program,
-    coordinates: &[i32],
-    indices: &[u32],
-) -> Result<(), Difference> {
-    let at = |depth| inspected(first, coordinates, indices, depth, indices.len());
-    let reports = [0, 1, 2, 3].map(at);
-    for depth in 0..3 {
-        let [lesser, greater] = [depth, depth + 1].map(|at| reports[at].report());
-        if let Some(what) = mesh_between_depths(lesser, greater) {
-            let question = Question::Inspect {
-                depth: depth as u32,
-                space: indices.len(),
-                coordinates: coordinates.to_vec(),
-                indices: indices.to_vec(),
-            };
-            return Err(Difference::new(&question, what));
-        }
-    }
-    Ok(())
+/// The report of a mesh of one element, from its words.
+pub fn only_record(words: &[i64]) -> &[i64] {
+    &words[ANSWER.len() + FENCE..words.len() - FENCE]
 }

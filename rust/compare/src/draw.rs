@@ -185,7 +185,11 @@ fn folded(shaker: &mut Shaker) -> Points {
 fn undecided(shaker: &mut Shaker) -> Points {
     for _ in 0..2000 {
         let points = folded(shaker);
-        if (0..=3).all(|depth| second::record(&points, depth)[0] == 2) {
+        let undecided_at = |depth| {
+            let (low, high) = second::bounds_of(&points, depth);
+            low <= 0 && high > 0
+        };
+        if undecided_at(0) && undecided_at(3) {
             return points;
         }
     }

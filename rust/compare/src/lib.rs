@@ -2,8 +2,9 @@
 //!
 //! Both are asked the same questions, and every word of every answer is
 //! compared: numbers, counts, stamps, all report words, bounds, address moves.
-//! What 01 says over depths is tested on each answer as well.  A difference
-//! carries its whole question, in one line that `compare again` takes.
+//! What 01 says over depths is tested on the library's answers for every
+//! element, accepted mesh and bounds.  A difference carries its whole question,
+//! in one line that `compare again` takes.
 
 #![deny(warnings)]
 #![forbid(unsafe_code)]

@@ -6,19 +6,20 @@
 
 #![deny(warnings)]
 
-use compare::check::ask;
 use compare::program::{Product, Second};
 use compare::question::Question;
 use compare::run::{run, Pair, Plan};
 use std::io;
 use std::process::ExitCode;
 
+const PAIR: Pair = Pair { first: &Product, second: &Second };
+
 fn again() -> Result<(), String> {
     for line in io::stdin().lines() {
         let line = line.map_err(|error| error.to_string())?;
         let question: Question = line.parse()?;
-        let words = ask(&Product, &Second, &question).map_err(|found| found.to_string())?;
-        println!("both answer {words:?}");
+        let words = PAIR.ask_again(&question).map_err(|found| found.to_string())?;
+        println!("the library answers {words:?}");
     }
     Ok(())
 }
@@ -26,8 +27,7 @@ fn again() -> Result<(), String> {
 fn whole(seed: &str, count: &str) -> Result<(), String> {
     let seed = seed.parse().map_err(|_| format!("no seed: {seed}"))?;
     let count = count.parse().map_err(|_| format!("no count: {count}"))?;
-    let pair = Pair { first: &Product, second: &Second };
-    run(pair, Plan::of(seed, count), |line| println!("{line}")).map_err(|found| found.to_string())
+    run(PAIR, Plan::of(seed, count), |line| println!("{line}")).map_err(|found| found.to_string())
 }
 
 fn main() -> ExitCode {

@@ -14,7 +14,8 @@ pub enum Question {
         indices: Vec<u32>,
     },
     /// Eight points, all in range, at every depth from 0 to `depth`: the
-    /// inspection of the mesh of this one element, and the bounds.
+    /// inspection of the mesh of this one element, and the bounds.  The first
+    /// program answers at the greater depths as well.
     Element {
         depth: u32,
         points: [i32; 24],

@@ -1,7 +1,7 @@
 //! The whole side-by-side run.
 
-use crate::cases::{cases, figures, rounded};
-use crate::check::{ask, last_record, mesh_over_depths, Difference};
+use crate::cases::{cases, figures, not_as_printed, rounded};
+use crate::check::{ask, last_record, Difference, POINTS_A_LEVEL};
 use crate::draw::{self, Kind, KINDS};
 use crate::program::{Program, IN_ORDER};
 use crate::question::Question;
@@ -38,6 +38,16 @@ pub struct Pair<'a> {
 impl Pair<'_> {
     fn ask(self, question: &Question) -> Result<Vec<i64>, Difference> {
         ask(self.first, self.second, question)
+    }
+
+    /// Asks, and holds the answer against what 01 prints of a worked case: every
+    /// test that a question of the run is put to.
+    pub fn ask_again(self, question: &Question) -> Result<Vec<i64>, Difference> {
+        let words = self.ask(question)?;
+        match not_as_printed(question, &words) {
+            None => Ok(words),
+            Some(what) => Err(Difference::new(question, what)),
+        }
     }
 }
 
@@ -96,35 +106,18 @@ fn shaker_for(seed: u64, part: u64, turn: usize) -> Shaker {
 
 // ------------------------------------------------------------------- parts --
 
-/// Fails with a question whose answer is not the one that 01 prints.
-fn not_as_printed(question: &Question, what: String) -> Result<(), Difference> {
-    Err(Difference::new(question, what))
-}
+/// What `ask` tests beside the second program's answer.
+const OVER_DEPTHS: &str = "held over depths 0 to 3";
 
-/// The cases of 01 at every depth, against the record that 01 prints too.
+/// The cases of 01 at every depth, against what 01 prints too.
 fn worked_cases(pair: Pair) -> Result<String, Difference> {
     for case in cases() {
         for depth in 0..=3 {
-            let question = case.question(depth);
-            let words = pair.ask(&question)?;
-            let report: Vec<i64> = words[14..22].to_vec();
-            let record = case.records.iter().find(|(depths, _)| depths.contains(&depth));
-            if let Some((_, record)) = record.filter(|(_, record)| report != record) {
-                let what = format!("case {}: {report:?}, in 01 {record:?}", case.name);
-                not_as_printed(&question, what)?;
-            }
-            pair.ask(&Question::Bounds { depth, points: case.points })?;
+            pair.ask_again(&case.question(depth))?;
+            pair.ask_again(&Question::Bounds { depth, points: case.points })?;
         }
         if case.is_whole() {
             pair.ask(&Question::Element { depth: 3, points: case.points })?;
-        }
-        if let Some((depth, low, high)) = case.bounds {
-            let question = Question::Bounds { depth, points: case.points };
-            let words = pair.ask(&question)?;
-            if words != [0, low, high] {
-                let what = format!("case {}: {words:?}, in 01 {low} and {high}", case.name);
-                not_as_printed(&question, what)?;
-            }
         }
     }
     Ok("A to I and the cube from -4,096 to 4,096, at depths 0 to 3".to_string())
@@ -170,12 +163,7 @@ fn refusals(pair: Pair) -> Result<String, Difference> {
         for indices in index_lengths {
             for depth in depths {
                 for space in [0, 7, 8, 9, 16, 7999, 8000, 8001, 8008] {
-                    // a full lot of sound elements is slow for the second
-                    // program: at the depths 0 and 1 only
-                    let slow = space == 8000 && indices == 8000 && coordinates == 15_000;
-                    if !(slow && (2..=3).contains(&depth)) {
-                        questions.push((coordinates, indices, depth, space));
-                    }
+                    questions.push((coordinates, indices, depth, space));
                 }
             }
         }
@@ -192,7 +180,8 @@ fn refusals(pair: Pair) -> Result<String, Difference> {
         count(tally, format!("number {}", words[0]));
         Ok(())
     })?;
-    Ok(format!("{} meshes, {}", questions.len(), in_words(&tally)))
+    let said = in_words(&tally);
+    Ok(format!("{} meshes, those of number 0 {OVER_DEPTHS}, {said}", questions.len()))
 }
 
 /// Random meshes with anything wrong in them.
@@ -205,16 +194,13 @@ fn meshes(pair: Pair, plan: Plan) -> Result<String, Difference> {
         for (kind, name) in ["valid", "invalid", "undecided", "refused"].iter().enumerate() {
             *tally.entry(format!("{name} records")).or_insert(0) += words[1 + kind] as u64;
         }
-        if let Question::Inspect { coordinates, indices, .. } = &question {
-            if words[0] == 0 && indices.len() <= 80 {
-                mesh_over_depths(pair.first, coordinates, indices)?;
-                count(tally, "held over depths".to_string());
-            }
-        }
-        pair.ask(&draw::bounds(&mut shaker))?;
+        let bounds = pair.ask(&draw::bounds(&mut shaker))?;
+        count(tally, format!("number {} of the bounds", bounds[0]));
         Ok(())
     })?;
-    Ok(format!("{} meshes and as many bounds, {}", plan.meshes, in_words(&tally)))
+    let said = in_words(&tally);
+    let asked = plan.meshes;
+    Ok(format!("{asked} meshes and as many bounds, those of number 0 {OVER_DEPTHS}, {said}"))
 }
 
 /// Moves of all small addresses, and of any.
@@ -267,7 +253,8 @@ fn stamps(pair: Pair, plan: Plan) -> Result<String, Difference> {
 }
 
 /// Random elements of every kind.  The depth goes round with the element: two
-/// in eight are asked to depth 3, with every depth below.
+/// in eight are asked of both programs to depth 3, with every depth below; the
+/// first program is held over all depths on each.
 fn elements(pair: Pair, plan: Plan) -> Result<String, Difference> {
     const LOT: usize = 64;
     const DEPTHS: [u32; 8] = [0, 3, 1, 2, 1, 3, 0, 2];
@@ -279,15 +266,17 @@ fn elements(pair: Pair, plan: Plan) -> Result<String, Difference> {
             let depth = DEPTHS[at / KINDS.len() % DEPTHS.len()];
             let points = draw::element(&mut shaker, kind);
             let words = pair.ask(&Question::Element { depth, points })?;
-            count(tally, format!("depth {depth}"));
+            count(tally, format!("both to depth {depth}"));
             let record = last_record(&words);
-            if depth == 3 {
-                count(tally, format!("{kind:?}: {}", verdict(&record)));
+            count(tally, format!("{kind:?}: {}", verdict(&record)));
+            if record[0] == 0 {
+                let points = 3 * POINTS_A_LEVEL;
+                count(tally, format!("valid, with J at {points} points of levels 4 to 6"));
             }
         }
         Ok(())
     })?;
-    Ok(format!("{} elements, {}", plan.elements, in_words(&tally)))
+    Ok(format!("{} elements, all {OVER_DEPTHS}, {}", plan.elements, in_words(&tally)))
 }
 
 fn in_words(tally: &Tally) -> String {

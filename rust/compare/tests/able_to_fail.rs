@@ -4,8 +4,8 @@
 #![deny(warnings)]
 
 use compare::cases::cases;
-use compare::check::{ask, mesh_over_depths};
-use compare::program::{Address, Answer, AtDepth, Move, Product, Program, Second};
+use compare::check::{ask, Difference};
+use compare::program::{Address, Answer, Move, Product, Program, Second};
 use compare::question::Question;
 use compare::run::{run, Pair, Plan};
 
@@ -259,30 +259,44 @@ fn small_plan() -> Plan {
     Plan { seed: 5, elements: 1500, meshes: 400, moves: 2000 }
 }
 
+/// The question that a difference prints finds the same difference again.
+fn finds_it_again(pair: Pair, found: &Difference) {
+    let line = found.to_string();
+    let printed = line.lines().last().expect("a line");
+    let question: Question = printed.parse().expect("a question");
+    assert_eq!(pair.ask_again(&question).as_ref(), Err(found));
+}
+
 /// Each wrong program is caught, and the question that is printed catches it
 /// again.
 #[test]
 fn every_fault_is_caught() {
     for fault in FAULTS {
-        let wrong = Wrong(fault);
-        let pair = Pair { first: &Second, second: &wrong };
+        let pair = Pair { first: &Product, second: &Wrong(fault) };
         let Err(found) = run(pair, small_plan(), drop) else {
             panic!("{fault:?} was not caught");
         };
         println!("{fault:?}: {}", found.what);
-        let line = found.to_string();
-        let printed = line.lines().last().expect("a line");
-        let question: Question = printed.parse().expect("a question");
-        assert_eq!(question, *found.question);
-        let again = ask(&Second, &wrong, &question);
-        assert_eq!(again.err().map(|difference| *difference.question), Some(question));
+        finds_it_again(pair, &found);
     }
 }
 
-/// The same wrong program in both places: nothing differs between the two, and
-/// the rules over depths alone must catch it.
-struct Unsteady(u8);
+/// What is wrong in both places alike: nothing differs between the two, and
+/// the rules over depths, or what 01 prints, must catch it.
+#[derive(Clone, Copy, Debug, PartialEq)]
+enum Unsteady {
+    ValidBecomesUndecided,
+    InvalidBecomesValid,
+    OpenedGrows,
+    RefusalMoves,
+    LowFalls,
+    HighRises,
+    RecordApartFromBounds,
+    NotPositive,
+    OpenedInvented,
+}
 
+/// The library with one such fault.
 impl Program for Unsteady {
     fn inspect(
         &self,
@@ -291,73 +305,109 @@ impl Program for Unsteady {
         depth: u32,
         report: &mut [i64],
     ) -> Answer {
-        let answer = Second.inspect(coordinates, indices, depth, report);
-        if self.0 == 0 && depth == 1 && answer[0] == 0 {
-            report
-                .iter_mut()
-                .step_by(8)
-                .for_each(|kind| *kind = if *kind == 1 { 0 } else { *kind });
+        let answer = Product.inspect(coordinates, indices, depth, report);
+        let records = report.chunks_exact_mut(8).filter(|_| answer[0] == 0);
+        for record in records {
+            match (self, depth, record[0]) {
+                (Unsteady::ValidBecomesUndecided, 2, 0) => {
+                    record.copy_from_slice(&[2, 2, 0, 0, 0, 13, 0, 9]);
+                }
+                (Unsteady::InvalidBecomesValid, 3, 1) => record[0] = 0,
+                (Unsteady::OpenedGrows, 1.., 0 | 1) => record[7] += 1,
+                (Unsteady::RefusalMoves, 3, 5 | 6) => record[1] = 8,
+                (Unsteady::RecordApartFromBounds, 3, 2) => record[0] = 0,
+                (Unsteady::NotPositive, _, 0..=2) => {
+                    record.copy_from_slice(&[0, 0, 0, 0, 0, 0, 0, 1]);
+                }
+                (Unsteady::OpenedInvented, _, 0..=2) => record[7] = 585,
+                _ => {}
+            }
         }
         answer
     }
 
     fn bounds(&self, points: &[i32; 24], depth: u32) -> (u32, i64, i64) {
-        Second.bounds(points, depth)
+        let (number, low, high) = Product.bounds(points, depth);
+        match (self, number, depth) {
+            (Unsteady::LowFalls, 0, 2) => (number, low - 1, high),
+            (Unsteady::HighRises, 0, 2) => (number, low, high + 1),
+            (Unsteady::NotPositive, 0, _) => (number, 8 << (6 * depth), 8 << (6 * depth)),
+            _ => (number, low, high),
+        }
     }
 
     fn stamp(&self, answer: Answer) -> u32 {
-        Second.stamp(answer)
+        Product.stamp(answer)
     }
 
     fn child(&self, address: Address, n: u32) -> Move {
-        Second.child(address, n)
+        Product.child(address, n)
     }
 
     fn corner(&self, address: Address, n: u32) -> Move {
-        Second.corner(address, n)
+        Product.corner(address, n)
     }
 
     fn parent(&self, address: Address) -> Move {
-        Second.parent(address)
-    }
-
-    fn over_depths(&self, points: &[i32; 24], depth: u32) -> Vec<AtDepth> {
-        let mut seen = Second.over_depths(points, depth);
-        for (at, depth) in seen.iter_mut().zip(0..) {
-            match (self.0, depth) {
-                (1, 1) if at.record[0] == 1 => at.record[7] += 1,
-                (2, 2) => at.bounds.1 -= 1,
-                (3, 2) => at.bounds.2 += 1,
-                (4, 3) if at.record[0] == 2 => at.record[0] = 0,
-                _ => {}
-            }
-        }
-        seen
+        Product.parent(address)
     }
 }
 
+/// The points of a worked case.
+fn points_of(name: &str) -> [i32; 24] {
+    cases().iter().find(|case| case.name == name).expect("a case").points
+}
+
+/// A mesh of 120 elements: the cases A, C, D, F and H, and A with an index past
+/// the nodes, over and over.
+fn worked_mesh(depth: u32) -> Question {
+    let coordinates = ["A", "C", "D", "F", "H"].map(points_of).concat();
+    let mut elements: Vec<u32> = (0..40).collect();
+    elements.extend([0, 1, 2, 40, 4, 5, 6, 7]);
+    let indices = elements.repeat(20);
+    Question::Inspect { depth, space: indices.len(), coordinates, indices }
+}
+
+/// Every rule over depths is tested on elements, meshes and bounds alike, the
+/// question being of depth 0: on the element that shows the fault, if one can,
+/// and on a mesh.
 #[test]
 fn the_rules_over_depths_are_tested() {
-    for fault in 1..5 {
-        let wrong = Unsteady(fault);
-        let Err(found) = run(Pair { first: &wrong, second: &wrong }, small_plan(), drop) else {
-            panic!("fault {fault} over depths was not caught");
-        };
-        println!("fault {fault} over depths: {}", found.what);
+    let faults = [
+        (Unsteady::ValidBecomesUndecided, Some("D"), "became"),
+        (Unsteady::InvalidBecomesValid, Some("C"), "became"),
+        (Unsteady::OpenedGrows, Some("A"), "became"),
+        (Unsteady::RefusalMoves, None, "became"),
+        (Unsteady::LowFalls, Some("A"), "64 times low"),
+        (Unsteady::HighRises, Some("A"), "64 times the depth before's"),
+        (Unsteady::RecordApartFromBounds, Some("F"), "with bounds"),
+        (Unsteady::NotPositive, Some("C"), "valid, and J is"),
+    ];
+    for (fault, case, rule) in faults {
+        let pair = Pair { first: &fault, second: &fault };
+        let mut questions = vec![worked_mesh(0)];
+        if let Some(points) = case.map(points_of) {
+            questions.push(Question::Element { depth: 0, points });
+            questions.push(Question::Bounds { depth: 0, points });
+        }
+        for question in questions {
+            assert!(ask(&Product, &Second, &question).is_ok());
+            let found = pair.ask_again(&question).expect_err("a fault over depths");
+            println!("{fault:?}: {}", found.what);
+            assert!(found.what.contains(rule));
+            finds_it_again(pair, &found);
+        }
+        assert!(run(pair, small_plan(), drop).is_err());
     }
 }
 
-/// So is the rule for the records of a mesh.
+/// So is an answer that holds over depths and is not the one that 01 prints.
 #[test]
-fn the_rule_over_depths_is_tested_on_meshes() {
-    // a unit cube with its rings exchanged, case C, after a unit cube
-    let mut coordinates = cases().swap_remove(0).points.to_vec();
-    coordinates.extend(cases().swap_remove(2).points);
-    let indices: Vec<u32> = (0..16).collect();
-    assert_eq!(mesh_over_depths(&Second, &coordinates, &indices), Ok(()));
-    assert_eq!(mesh_over_depths(&Product, &coordinates, &indices), Ok(()));
-    let found = mesh_over_depths(&Unsteady(0), &coordinates, &indices);
-    assert!(found.is_err_and(|difference| difference.what.contains("became")));
+fn what_01_prints_is_tested() {
+    let pair = Pair { first: &Unsteady::OpenedInvented, second: &Unsteady::OpenedInvented };
+    let found = run(pair, small_plan(), drop).expect_err("not as printed");
+    assert!(found.what.contains("in 01"));
+    finds_it_again(pair, &found);
 }
 
 /// The printed form of every question reads back, and the library answers it.

@@ -1,6 +1,6 @@
 //! A second, plain program for the inspection of trilinear hexahedra.
 //!
-//! It answers what the first paper (01) asks, by sampling alone: J is taken
+//! It answers what the scope document (01) asks, by sampling alone: J is taken
 //! from the partial derivatives of the mapping at grid points, the 27 Bezier
 //! coefficients of a cube are fitted to 27 samples, and every cube of every
 //! level up to the depth is looked at.  Nothing is searched or left out, so
@@ -14,6 +14,8 @@
 #![forbid(unsafe_code)]
 // Loops over axes and rows, and the length tests, read as the rules do.
 #![allow(clippy::needless_range_loop, clippy::manual_is_multiple_of)]
+
+use std::sync::LazyLock;
 
 pub mod specimens;
 
@@ -110,6 +112,9 @@ fn places() -> [[usize; 3]; 27] {
     }
     places
 }
+
+/// The same, worked once.
+static PLACES: LazyLock<[[usize; 3]; 27]> = LazyLock::new(places);
 
 // ------------------------------------------------------------ determinant --
 
@@ -222,7 +227,7 @@ fn divided_exactly(number: i128, by: i128) -> Option<i128> {
 fn coefficients_from(samples: Net) -> Option<[i128; 27]> {
     let net = eight_times_the_fit(samples); // times 8 * 64^(m+1)
     let mut held = [0; 27];
-    for (number, [i, j, k]) in places().into_iter().enumerate() {
+    for (number, &[i, j, k]) in PLACES.iter().enumerate() {
         held[number] = divided_exactly(net[i][j][k], 64)?;
     }
     Some(held)
@@ -237,7 +242,7 @@ pub fn coefficients(points: &[i64; 24], m: u32, a: u64, b: u64, c: u64) -> [i128
     let steps = two_to(m.saturating_add(1));
     let low = [a, b, c].map(|number| 2 * i128::from(number));
     let mut samples: Net = [[[0; 3]; 3]; 3];
-    for [i, j, k] in places() {
+    for [i, j, k] in *PLACES {
         let at = [low[0] + i as i128, low[1] + j as i128, low[2] + k as i128];
         samples[i][j][k] = jacobian_at(points, steps, at);
     }
@@ -256,17 +261,30 @@ struct Grid {
 impl Grid {
     /// 01: "A grid point of level m, for any whole m from 0 up, past the
     /// largest depth too, is (a, b, c)/2^m with a, b, c in 0..2^m".
+    ///
+    /// A partial derivative is the same all along its own direction, and is
+    /// worked once for each pair of the other two numbers.
     fn sampled(points: &[i64; 24], m: u32) -> Grid {
-        let steps = 1u64 << m.min(REACH_DEPTH + 1);
+        let side = (1usize << m.min(REACH_DEPTH + 1)) + 1;
+        let on_a_face = |direction: usize| -> Vec<[i128; 3]> {
+            let along = |pair: usize| {
+                let (i, j) = ((pair / side) as i128, (pair % side) as i128);
+                let at = [[0, i, j], [i, 0, j], [i, j, 0]][direction];
+                partial(points, two_to(m), at, direction)
+            };
+            (0..side * side).map(along).collect()
+        };
+        let [xi, eta, zeta] = [0, 1, 2].map(on_a_face);
         let mut values = Vec::new();
-        for a in 0..=steps {
-            for b in 0..=steps {
-                for c in 0..=steps {
-                    values.push(jacobian(points, m, a, b, c));
+        for a in 0..side {
+            for b in 0..side {
+                for c in 0..side {
+                    let (u, v) = (xi[b * side + c], eta[a * side + c]);
+                    values.push(determinant(u, v, zeta[a * side + b]));
                 }
             }
         }
-        Grid { side: steps as usize + 1, values }
+        Grid { side, values }
     }
 
     fn at(&self, [a, b, c]: [usize; 3]) -> i128 {
@@ -277,7 +295,7 @@ impl Grid {
     fn on_the_cube(&self, cube: [u32; 3]) -> Net {
         let low = cube.map(|number| 2 * number as usize);
         let mut samples: Net = [[[0; 3]; 3]; 3];
-        for [i, j, k] in places() {
+        for [i, j, k] in *PLACES {
             samples[i][j][k] = self.at([low[0] + i, low[1] + j, low[2] + k]);
         }
         samples
@@ -624,12 +642,12 @@ fn first_unusable(limits: &Limits, points: &[i64; 24]) -> Option<(i64, i64)> {
 
 /// 01: "An element's eight points are the nodes that its indices name, in
 /// place order."  None if one of them names no node.
-fn points_of(coordinates: &[i32], element: &[u32]) -> Option<[i64; 24]> {
+pub fn points_of(coordinates: &[i32], element: &[u32]) -> Option<[i32; 24]> {
     let mut points = [0; 24];
     for (place, &index) in element.iter().enumerate().take(8) {
         for axis in 0..3 {
             let at = usize::try_from(index).ok()?.checked_mul(3)?.checked_add(axis)?;
-            points[3 * place + axis] = i64::from(*coordinates.get(at)?);
+            points[3 * place + axis] = *coordinates.get(at)?;
         }
     }
     Some(points)
@@ -644,6 +662,7 @@ fn element_record(limits: &Limits, coordinates: &[i32], element: &[u32], depth: 
     let Some(points) = points_of(coordinates, element) else {
         return OUT_OF_REACH; // not met: every index names a node here
     };
+    let points = points.map(i64::from);
     if let Some((place, axis)) = first_unusable(limits, &points) {
         return [6, place, axis, 0, 0, 0, 0, 0];
     }
