@@ -11,7 +11,6 @@ ghost use lib.ListN.{length};
 ghost use Rattle.definitions.specs.Limits.{base};
 ghost use Rattle.definitions.specs.Record.{recordOf};
 ghost use Rattle.definitions.specs.Mesh.{elementRecord, records, report as reportOf, countsOf, inspection, reportAfter, stampOf, boundsOf};
-ghost use Rattle.subdivision.specs.Rows.{rows};
 ghost use Rattle.control.specs.Range.{InRange};
 ghost use Rattle.mesh.specs.Meaning.{countsHeld};
 ghost use Rattle.search.specs.Bounds.{extremesOf, boundsAt};
@@ -45,25 +44,25 @@ pub enum Bounds {
 }
 
 // The record of eight points that are all in range.
-fn points_record(p: &[i32; 24], depth: u32, t: &[usize; 81]) -> [i64; 8]
-    requires { ⌜ InRange (base .range) (now p) × (now t ≡ rows) × (depth ≤ base .depth) ⌝ }
+fn points_record(p: &[i32; 24], depth: u32) -> [i64; 8]
+    requires { ⌜ InRange (base .range) (now p) × (depth ≤ base .depth) ⌝ }
     ensures { λ r. ⌜ r ≡ recordOf (now (p .entry)) depth ⌝ }
 {
     let mut g = [0i64; 27];
     control::coefficients(p, &mut g);
-    search::record(&g, depth, t)
+    search::record(&g, depth)
 }
 
 // The record of the element whose eight indices are lent.
-fn element(coordinates: &[i32], ix: &[u32], depth: u32, t: &[usize; 81]) -> [i64; 8]
-    requires { ⌜ (length (now ix) ≡ 8) × (now t ≡ rows) × (depth ≤ base .depth) ⌝ }
+fn element(coordinates: &[i32], ix: &[u32], depth: u32) -> [i64; 8]
+    requires { ⌜ (length (now ix) ≡ 8) × (depth ≤ base .depth) ⌝ }
     ensures { λ r. ⌜ r ≡ elementRecord base (now (coordinates .entry)) (now (ix .entry)) depth ⌝ }
 {
     let fault = mesh::fault(coordinates, ix);
     match fault {
         Element::Whole => {
             let p = mesh::gather(coordinates, ix);
-            points_record(&p, depth, t)
+            points_record(&p, depth)
         }
         Element::Missing(place, index) => mesh::fault_words(fault),
         Element::Outside(place, axis) => mesh::fault_words(fault),
@@ -71,15 +70,9 @@ fn element(coordinates: &[i32], ix: &[u32], depth: u32, t: &[usize; 81]) -> [i64
 }
 
 // The records of all elements into the report space, element by element, and how many there are of each kind.
-fn write_records(
-    coordinates: &[i32],
-    indices: &[u32],
-    depth: u32,
-    t: &[usize; 81],
-    report: &mut [i64],
-) -> Counts
+fn write_records(coordinates: &[i32], indices: &[u32], depth: u32, report: &mut [i64]) -> Counts
     requires { ⌜ (length (now indices) % 8 ≡ 0) × (length (now indices) / 8 ≤ base .elements) × (length (now report) ≡ 8 * (length (now indices) / 8)) ⌝ }
-    requires { ⌜ (now t ≡ rows) × (depth ≤ base .depth) ⌝ }
+    requires { ⌜ (depth ≤ base .depth) ⌝ }
     ensures { λ r. ⌜ countsHeld r ≡ countsOf (records base (now (coordinates .entry)) (now (indices .entry)) depth) ⌝ }
     ensures { λ r. ⌜ now (report .exit) ≡ reportOf base (now (coordinates .entry)) (now (indices .entry)) depth ⌝ }
 {
@@ -92,7 +85,7 @@ fn write_records(
     let n = indices.len() / 8;
     for e in 0..n {
         let at = 8 * e;
-        let words = element(coordinates, &indices[at..at + 8], depth, t);
+        let words = element(coordinates, &indices[at..at + 8], depth);
         let kind = words[0];
         counts = mesh::counted(kind, counts);
         mesh::put(report, e, words);
@@ -107,10 +100,12 @@ pub fn inspect(coordinates: &[i32], indices: &[u32], depth: u32, report: &mut [i
 {
     let checked = mesh::check(coordinates.len(), indices.len(), report.len(), depth);
     match checked {
-        Checked::Accepted => {
-            let t = subdivision::table();
-            Inspection::Accepted(write_records(coordinates, indices, depth, &t, report))
-        }
+        Checked::Accepted => Inspection::Accepted(write_records(
+            coordinates,
+            indices,
+            depth,
+            report,
+        )),
         Checked::DepthTooGreat => Inspection::DepthTooGreat,
         Checked::BadCoordinates => Inspection::BadCoordinates,
         Checked::BadIndices => Inspection::BadIndices,
@@ -149,10 +144,9 @@ fn points_bounds(p: &[i32; 24], depth: u32) -> Extremes
     requires { ⌜ InRange (base .range) (now p) × (depth ≤ base .depth) ⌝ }
     ensures { λ r. ⌜ extremesOf r ≡ boundsAt (now (p .entry)) depth ⌝ }
 {
-    let t = subdivision::table();
     let mut g = [0i64; 27];
     control::coefficients(p, &mut g);
-    search::bounds(&g, depth, &t)
+    search::bounds(&g, depth)
 }
 
 // The low and the high bound of eight points, x, y, z of each, at a depth.

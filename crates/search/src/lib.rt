@@ -4,7 +4,6 @@ ghost use mathlib.Core.Bool.{false};
 ghost use Prim.Native.Nat.{ℕ, _+_, _*_, _^_, _<_, _≤_};
 ghost use lib.ListN.{length, take, getD};
 ghost use Rattle.verdict.specs.Search.{ended as hasEnded, openCell, visit as visited};
-ghost use Rattle.subdivision.specs.Rows.{rows};
 ghost use Rattle.definitions.specs.Limits.{base};
 ghost use Rattle.address.specs.Meaning.{addressOf};
 ghost use Rattle.search.specs.Meaning.{cellOf, findingOf, findingHeld, foundOf, withCoefficient, passOf, childOf, cornerOf, lowest as lowestOf, size, Cell, Room};
@@ -146,8 +145,8 @@ fn open_cell(g: &[i64], q: Address, r: Pass) -> Pass
 }
 
 // The cells that are due `left` levels below this one, in path order, after what was found before.
-pub fn visit(g: &[i64], q: Address, left: u32, t: &[usize; 81], r: Pass) -> Pass
-    requires { ⌜ Room q (now g) left × (now t ≡ rows) × (r .count + 8 ^ left ≤ 4294967295) ⌝ }
+pub fn visit(g: &[i64], q: Address, left: u32, r: Pass) -> Pass
+    requires { ⌜ Room q (now g) left × (r .count + 8 ^ left ≤ 4294967295) ⌝ }
     ensures { λ s. ⌜ (passOf s ≡ visited left (cellOf q (now (g .entry))) (passOf r)) × (s .count ≤ r .count + 8 ^ left) ⌝ }
 {
     let found = r.found;
@@ -161,12 +160,12 @@ pub fn visit(g: &[i64], q: Address, left: u32, t: &[usize; 81], r: Pass) -> Pass
         return r;
     }
     let mut parts = [0i64; 216];
-    subdivision::cut(g, t, &mut parts);
+    subdivision::cut(g, &mut parts);
     let mut s = r;
     for k in 0..8 {
         let p = child_at(q, k);
         let from = 27 * k;
-        s = visit(&parts[from..from + 27], p, left - 1, t, s);
+        s = visit(&parts[from..from + 27], p, left - 1, s);
     }
     s
 }
@@ -184,15 +183,14 @@ fn whole() -> Address
 }
 
 // The pass of a level over the whole element, with `count` cells opened before.
-fn pass_at(g: &[i64], level: u32, t: &[usize; 81], count: u32) -> Pass
-    requires { ⌜ Control (size 0) (now g) × (now t ≡ rows) × (level ≤ base .depth) × (count + 8 ^ level ≤ 4294967295) ⌝ }
+fn pass_at(g: &[i64], level: u32, count: u32) -> Pass
+    requires { ⌜ Control (size 0) (now g) × (level ≤ base .depth) × (count + 8 ^ level ≤ 4294967295) ⌝ }
     ensures { λ r. ⌜ (passOf r ≡ visited level (wholeOf (now (g .entry))) (fresh count)) × (r .count ≤ count + 8 ^ level) ⌝ }
 {
     visit(
         g,
         whole(),
         level,
-        t,
         Pass {
             count: count,
             found: Found::Nothing,
@@ -253,15 +251,15 @@ fn settle(level: u32, r: Pass) -> [i64; 8]
 }
 
 // The record of the eight points with these coefficients: a pass of level 0, 1, .. while only low coefficients are found.
-pub fn record(g: &[i64], depth: u32, t: &[usize; 81]) -> [i64; 8]
-    requires { ⌜ OfPoints (now g) × (now t ≡ rows) × (depth ≤ base .depth) ⌝ }
+pub fn record(g: &[i64], depth: u32) -> [i64; 8]
+    requires { ⌜ OfPoints (now g) × (depth ≤ base .depth) ⌝ }
     ensures { λ w. ⌜ ((xs : List ℤ) → now (g .entry) ≡ coefficients xs → w ≡ recordOf xs depth) ⌝ }
 {
     let mut m: u32 = 0;
-    let mut r = pass_at(g, 0, t, 0);
+    let mut r = pass_at(g, 0, 0);
     while (m < depth) & blocked(r) {
         m += 1;
-        r = pass_at(g, m, t, r.count);
+        r = pass_at(g, m, r.count);
     }
     settle(m, r)
 }
@@ -308,34 +306,33 @@ fn with_cell(g: &[i64], r: Extremes) -> Extremes
 }
 
 // The cells `left` levels below this one, after those seen before.
-pub fn survey(g: &[i64], q: Address, left: u32, t: &[usize; 81], r: Extremes) -> Extremes
-    requires { ⌜ Room q (now g) left × (now t ≡ rows) ⌝ }
+pub fn survey(g: &[i64], q: Address, left: u32, r: Extremes) -> Extremes
+    requires { ⌜ Room q (now g) left ⌝ }
     ensures { λ s. ⌜ extremesOf s ≡ extremesBelow left (cellOf q (now (g .entry))) (extremesOf r) ⌝ }
 {
     if left == 0 {
         return with_cell(g, r);
     }
     let mut parts = [0i64; 216];
-    subdivision::cut(g, t, &mut parts);
+    subdivision::cut(g, &mut parts);
     let mut s = r;
     for k in 0..8 {
         let p = child_at(q, k);
         let from = 27 * k;
-        s = survey(&parts[from..from + 27], p, left - 1, t, s);
+        s = survey(&parts[from..from + 27], p, left - 1, s);
     }
     s
 }
 
 // Both bounds of the eight points with these coefficients, from the greatest number, which no coefficient passes.
-pub fn bounds(g: &[i64], depth: u32, t: &[usize; 81]) -> Extremes
-    requires { ⌜ OfPoints (now g) × (now t ≡ rows) × (depth ≤ base .depth) ⌝ }
+pub fn bounds(g: &[i64], depth: u32) -> Extremes
+    requires { ⌜ OfPoints (now g) × (depth ≤ base .depth) ⌝ }
     ensures { λ r. ⌜ ((xs : List ℤ) → now (g .entry) ≡ coefficients xs → ((i : ℕ) → natAbs (getD xs i (pos 0)) ≤ base .range) → extremesOf r ≡ boundsAt xs depth) ⌝ }
 {
     survey(
         g,
         whole(),
         depth,
-        t,
         Extremes {
             low: 9223372036854775807,
             high: 9223372036854775807,

@@ -1,5 +1,6 @@
 -- A cell's eight children, as 8 · 27 numbers in a row.
 use mathlib.Core.Path.{_≡_}
+use mathlib.Core.Logic.{_≢_}
 use mathlib.Core.List.{List, [], _++_}
 use Prim.Native.Nat.{ℕ, zero, suc, _*_, _%_}
 use lib.ListN.{length, take, drop}
@@ -38,3 +39,10 @@ origin (suc (suc d)) k = k % 4
 
 abbrev pub across : ℕ → List ℤ → ℕ → List ℤ
 across d xs k = halve d (side d k) (part (origin d k) xs)
+
+-- ys is xs with the lower half of c in direction d put for part a, and the upper half for part b
+pub record Split (d a b : ℕ) (c xs ys : List ℤ) : Type 0 where
+  pub sized : length ys ≡ length xs
+  pub low : part a ys ≡ halve d 0 c
+  pub high : part b ys ≡ halve d 1 c
+  pub kept : (k : ℕ) → k ≢ a → k ≢ b → part k ys ≡ part k xs

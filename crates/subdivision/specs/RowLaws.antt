@@ -1,19 +1,20 @@
--- What the table of rows holds; a coefficient of a half by its row; and a half put together row by row.
+-- Where the coefficients stand in the rows; a coefficient of a half by its row; and a half put together row by row.
 use mathlib.Core.Path.{_≡_, refl, sym, _∙_, ap, subst}
 use mathlib.Core.List.{List, [], _∷_, map}
-use Prim.Native.Nat.{ℕ, zero, suc, _+_, _*_, _/_, _%_, _<_}
+use Prim.Native.Nat.{ℕ, zero, suc, _+_, _*_, _/_, _%_, _<_, _≤_}
 use native.Mathlib.Decide.{ℕ-discrete}
 use native.Mathlib.Omega.{arith}
 use lib.Dec.{T, eqb, eqb→eq}
-use lib.ListN.{getD, length, length-set}
+use lib.ListN.{getD, set, length, length-set}
 use lib.Seq.{ext-getD, getD-set-same, getD-set-other}
 use lib.IntN.{ℤ, pos}
-use Rattle.foundation.specs.Lists.{allBelow, below, getD-tabulate}
+use Rattle.foundation.specs.Lists.{allBelow, below}
 use Rattle.foundation.specs.Polynomial.{integers}
 use Rattle.foundation.specs.Words.{args}
 use Rattle.definitions.specs.Coefficients.{numbering, numbered, place, at}
 use Rattle.definitions.specs.Subdivision.{lower, upper, cutRow, cut, halve}
-use Rattle.subdivision.specs.Rows.{inRow, inLine, rows, taken, takenRow}
+use Rattle.expansion.specs.Cut.{length-halve}
+use Rattle.subdivision.specs.Rows.{inRow, inLine, taken, takenRow, putRow, rowAt, afterRows, halfStep}
 
 -- ---- two functions of numbers compared by computing: below n; and at the 27 coefficients of every direction
 pub equal-below : (f g : ℕ → ℕ) (n : ℕ) → T (allBelow n (λ k. eqb (f k) (g k))) → (k : ℕ) → k < n → f k ≡ g k
@@ -23,7 +24,7 @@ everywhere : (f g : ℕ → ℕ → ℕ) → T (allBelow 81 (λ k. eqb (f (k / 2
 everywhere f g t d x ld lx = let p : (27 * d + x) / 27 ≡ d = omega arith in let q : (27 * d + x) % 27 ≡ x = omega arith in
     (λ j. f (sym p j) (sym q j)) ∙ equal-below (λ k. f (k / 27) (k % 27)) (λ k. g (k / 27) (k % 27)) 81 t (27 * d + x) (omega arith) ∙ (λ j. g (p j) (q j))
 
--- ---- the table
+-- ---- the rows
 -- the other two directions, and where coefficient n stands in the rows of direction d
 abbrev first : ℕ → ℕ
 first zero = 1
@@ -41,11 +42,6 @@ abbrev stand : ℕ → ℕ → ℕ
 stand d n = 9 * placeIn (first d) n + 3 * placeIn (second d) n + placeIn d n
 
 module _ (d x : ℕ) (ld : d < 3) (lx : x < 27) where
-  pub rows-at : getD rows (27 * d + x) 0 ≡ inLine d x
-  unfolding rows
-  rows-at = let p : (0 + (27 * d + x)) / 27 ≡ d = omega arith in let q : (0 + (27 * d + x)) % 27 ≡ x = omega arith in
-      getD-tabulate (λ x. inLine (x / 27) (x % 27)) 0 81 (27 * d + x) 0 (omega arith) ∙ (λ j. inLine (p j) (q j))
-
   pub line-small : inLine d x < 27
   line-small = omega (arith, everywhere (λ d x. inLine d x % 27) inLine tt d x ld lx)
 
@@ -139,3 +135,22 @@ module _ (d : ℕ) (half : List ℤ) (ld : d < 3) where
   agrees-all xs s z h = ext-getD (pos 0) xs half (s ∙ sym z) (λ n l. let k : n < 27 = omega arith in
       let e : inLine d (stand d n) ≡ n = line-stand d n ld k in
       subst (λ (m : ℕ). getD xs m (pos 0) ≡ getD half m (pos 0)) e (h (stand d n) (stand-small d n ld k)))
+
+-- ---- a half from its nine rows
+module _ (d h : ℕ) (c : List ℤ) (ld : d < 3) where
+  row-taken : (j : ℕ) (xs : List ℤ) → j < 9 → halfStep d h c j xs ≡ takenRow d (halve d h c) j xs
+  unfolding putRow
+  row-taken j xs lj = let e : 3 * j + 0 ≡ 3 * j = omega arith in
+      (λ i. putRow h (rowAt c (inLine d (e i)) (inLine d (3 * j + 1)) (inLine d (3 * j + 2))) (inLine d (e i)) (inLine d (3 * j + 1)) (inLine d (3 * j + 2)) xs)
+      ∙ (λ i. set (set (set xs (inLine d (3 * j)) (entry-is d h c j 0 (3 * j) ld lj (omega arith) (omega arith) i)) (inLine d (3 * j + 1)) (entry-is d h c j 1 (3 * j + 1) ld lj (omega arith) refl i)) (inLine d (3 * j + 2)) (entry-is d h c j 2 (3 * j + 2) ld lj (omega arith) refl i))
+
+  half-agrees : (xs : List ℤ) → length xs ≡ 27 → (n : ℕ) → n ≤ 9 → (length (afterRows (halfStep d h c) n xs) ≡ 27) × Agrees d (halve d h c) (3 * n) (afterRows (halfStep d h c) n xs)
+  half-agrees xs s zero l = (s, λ x k. absurd (omega arith))
+  half-agrees xs s (suc n) l = let (sized, agrees) = half-agrees xs s n (omega arith) in
+      let ys = afterRows (halfStep d h c) n xs in
+      let e : 3 * (n + 1) ≡ 3 * suc n = omega arith in
+      let (sized', agrees') = agrees-row d (halve d h c) ld n ys (row-taken n ys (omega arith)) (omega arith) sized agrees in
+      (sized', subst (λ (m : ℕ). Agrees d (halve d h c) m (halfStep d h c n ys)) e agrees')
+
+  pub half-made : (xs : List ℤ) → length xs ≡ 27 → afterRows (halfStep d h c) 9 xs ≡ halve d h c
+  half-made xs s = let (sized, agrees) = half-agrees xs s 9 (omega arith) in agrees-all d (halve d h c) ld (afterRows (halfStep d h c) 9 xs) sized (length-halve d h c) agrees

@@ -1,116 +1,15 @@
 // De Casteljau's cut of a cell's 27 coefficients into those of its eight children.
 // An inner crate, for the inspector's other crates. It offers `cut`, which writes the coefficients of all eight children, 64 times
-// larger, into lent space, and `table`, what every cut reads: a caller makes it once, at the top, and lends it down.
+// larger, into lent space.
 ghost use mathlib.Core.Path.{_≡_};
 ghost use mathlib.Core.List.{[], _∷_};
 ghost use Prim.Native.Nat.{_+_, _*_, _-_, _^_, _<_, _≤_};
 ghost use lib.ListN.{length};
 ghost use Rattle.foundation.specs.Polynomial.{integers};
 ghost use Rattle.foundation.specs.Words.{args, Within};
-ghost use Rattle.definitions.specs.Jacobian.{side as sideOf};
-ghost use Rattle.definitions.specs.Subdivision.{cutRow, halve as halfOf};
-ghost use Rattle.subdivision.specs.Rows.{inLine, rows, takenRow};
-ghost use Rattle.subdivision.specs.Children.{Control, endToEnd, eight, origin as originOf, across};
-
-// The nine rows of three coefficients in each direction, by their numbers less 1.
-const ROWS: [usize; 81] = [
-    0,
-    8,
-    1,
-    12,
-    21,
-    13,
-    4,
-    16,
-    5,
-    11,
-    20,
-    9,
-    24,
-    26,
-    22,
-    19,
-    25,
-    17,
-    3,
-    10,
-    2,
-    15,
-    23,
-    14,
-    7,
-    18,
-    6,
-    0,
-    11,
-    3,
-    12,
-    24,
-    15,
-    4,
-    19,
-    7,
-    8,
-    20,
-    10,
-    21,
-    26,
-    23,
-    16,
-    25,
-    18,
-    1,
-    9,
-    2,
-    13,
-    22,
-    14,
-    5,
-    17,
-    6,
-    0,
-    12,
-    4,
-    11,
-    24,
-    19,
-    3,
-    15,
-    7,
-    8,
-    21,
-    16,
-    20,
-    26,
-    25,
-    10,
-    23,
-    18,
-    1,
-    13,
-    5,
-    9,
-    22,
-    17,
-    2,
-    14,
-    6,
-];
-
-// The table that every cut is lent.
-pub fn table() -> [usize; 81]
-    ensures { λ r. ⌜ r ≡ rows ⌝ }
-{
-    ROWS
-}
-
-// The coefficient at x in the rows of direction d.
-fn in_line(t: &[usize; 81], d: usize, x: usize) -> usize
-    requires { ⌜ (now t ≡ rows) × (d < 3) × (x < 27) ⌝ }
-    ensures { λ r. ⌜ (r ≡ inLine d x) × (r < 27) ⌝ }
-{
-    t[27 * d + x]
-}
+ghost use Rattle.definitions.specs.Subdivision.{cutRow};
+ghost use Rattle.subdivision.specs.Rows.{putRow, splitRow};
+ghost use Rattle.subdivision.specs.Children.{Control, Split, endToEnd, eight, across};
 
 // The half on side h of the row p, q, r, four times larger: its entry i.
 fn blend(p: i64, q: i64, r: i64, h: usize, i: usize) -> i64
@@ -135,18 +34,12 @@ fn blend(p: i64, q: i64, r: i64, h: usize, i: usize) -> i64
     4 * r
 }
 
-// Row j of the half on side h in direction d.
-fn halve_row(c: &[i64], d: usize, h: usize, j: usize, t: &[usize; 81], out: &mut [i64])
-    requires { ⌜ Control (2 ^ 61 - 1) (now c) ⌝ }
-    requires { ⌜ (now t ≡ rows) × (d < 3) × (j < 9) × (length (now out) ≡ 27) ⌝ }
-    ensures { λ _. ⌜ now (out .exit) ≡ takenRow d (halfOf d h (now (c .entry))) j (now (out .entry)) ⌝ }
+// The half on side h of the row p, q, r, into out at x, y, z.
+fn put_row(p: i64, q: i64, r: i64, h: usize, x: usize, y: usize, z: usize, out: &mut [i64])
+    requires { ⌜ Within (2 ^ 61 - 1) (p ∷ q ∷ r ∷ []) ⌝ }
+    requires { ⌜ (x < length (now out)) × (y < length (now out)) × (z < length (now out)) ⌝ }
+    ensures { λ _. ⌜ now (out .exit) ≡ putRow h (p ∷ q ∷ r ∷ []) x y z (now (out .entry)) ⌝ }
 {
-    let x = in_line(t, d, 3 * j);
-    let y = in_line(t, d, 3 * j + 1);
-    let z = in_line(t, d, 3 * j + 2);
-    let p = c[x];
-    let q = c[y];
-    let r = c[z];
     let start = blend(p, q, r, h, 0);
     let middle = blend(p, q, r, h, 1);
     let end = blend(p, q, r, h, 2);
@@ -155,68 +48,100 @@ fn halve_row(c: &[i64], d: usize, h: usize, j: usize, t: &[usize; 81], out: &mut
     out[z] = end;
 }
 
-// The half on side h in direction d of the coefficients c.
-fn halve(c: &[i64], d: usize, h: usize, t: &[usize; 81], out: &mut [i64])
+// The coefficients x, y, z of c, a row, read once: its lower half into part a of out, its upper half into part b.
+fn split_row(c: &[i64], x: usize, y: usize, z: usize, a: usize, b: usize, out: &mut [i64])
     requires { ⌜ Control (2 ^ 61 - 1) (now c) ⌝ }
-    requires { ⌜ (now t ≡ rows) × (d < 3) × (length (now out) ≡ 27) ⌝ }
-    ensures { λ _. ⌜ now (out .exit) ≡ halfOf d h (now (c .entry)) ⌝ }
+    requires { ⌜ (x < 27) × (y < 27) × (z < 27) × (a < b) × (b < 8) × (27 * (b + 1) ≤ length (now out)) ⌝ }
+    ensures { λ _. ⌜ now (out .exit) ≡ splitRow (now (c .entry)) x y z a b (now (out .entry)) ⌝ }
 {
-    for j in 0..9 {
-        halve_row(c, d, h, j, t, out);
-    }
+    let p = c[x];
+    let q = c[y];
+    let r = c[z];
+    put_row(p, q, r, 0, 27 * a + x, 27 * a + y, 27 * a + z, out);
+    put_row(p, q, r, 1, 27 * b + x, 27 * b + y, 27 * b + z, out);
 }
 
-// The side, 0 or 1, of corner k in direction d.
-fn side(d: usize, k: usize) -> usize
-    requires { ⌜ k < 8 ⌝ }
-    ensures { λ r. ⌜ r ≡ sideOf d k ⌝ }
+// The two halves of c in direction ξ, into parts a and b of out. The numbers of each row are written out, here and below, so
+// that the compiler knows them.
+fn split_xi(c: &[i64], a: usize, b: usize, out: &mut [i64])
+    requires { ⌜ Control (2 ^ 61 - 1) (now c) ⌝ }
+    requires { ⌜ (a < b) × (b < 8) × (27 * (b + 1) ≤ length (now out)) ⌝ }
+    ensures { λ _. ⌜ Split 0 a b (now (c .entry)) (now (out .entry)) (now (out .exit)) ⌝ }
 {
-    if d == 0 {
-        return (k + k / 2) % 2;
-    }
-    if d == 1 {
-        return k / 2 % 2;
-    }
-    k / 4
+    split_row(c, 0, 8, 1, a, b, out);
+    split_row(c, 12, 21, 13, a, b, out);
+    split_row(c, 4, 16, 5, a, b, out);
+    split_row(c, 11, 20, 9, a, b, out);
+    split_row(c, 24, 26, 22, a, b, out);
+    split_row(c, 19, 25, 17, a, b, out);
+    split_row(c, 3, 10, 2, a, b, out);
+    split_row(c, 15, 23, 14, a, b, out);
+    split_row(c, 7, 18, 6, a, b, out);
 }
 
-// The part that part k is a half of: of the whole, of half 0 or 1, of quarter 0 to 3.
-fn origin(d: usize, k: usize) -> usize
-    requires { ⌜ (d < 3) × (k < 8) ⌝ }
-    ensures { λ r. ⌜ (r ≡ originOf d k) × (r < 2 ^ d) ⌝ }
+// The two halves of c in direction η, into parts a and b of out.
+fn split_eta(c: &[i64], a: usize, b: usize, out: &mut [i64])
+    requires { ⌜ Control (2 ^ 61 - 1) (now c) ⌝ }
+    requires { ⌜ (a < b) × (b < 8) × (27 * (b + 1) ≤ length (now out)) ⌝ }
+    ensures { λ _. ⌜ Split 1 a b (now (c .entry)) (now (out .entry)) (now (out .exit)) ⌝ }
 {
-    if d == 0 {
-        return 0;
-    }
-    if d == 1 {
-        return side(0, k);
-    }
-    k % 4
+    split_row(c, 0, 11, 3, a, b, out);
+    split_row(c, 12, 24, 15, a, b, out);
+    split_row(c, 4, 19, 7, a, b, out);
+    split_row(c, 8, 20, 10, a, b, out);
+    split_row(c, 21, 26, 23, a, b, out);
+    split_row(c, 16, 25, 18, a, b, out);
+    split_row(c, 1, 9, 2, a, b, out);
+    split_row(c, 13, 22, 14, a, b, out);
+    split_row(c, 5, 17, 6, a, b, out);
 }
 
-// n parts of 27 coefficients: halves in direction d of the 2^d parts that c holds.
-fn cut_across(c: &[i64], d: usize, n: usize, t: &[usize; 81], out: &mut [i64])
-    requires { ⌜ Within (2 ^ 61 - 1) (now c) × (length (now c) ≡ 27 * 2 ^ d) ⌝ }
-    requires { ⌜ (now t ≡ rows) × (d < 3) × (n ≤ 8) × (length (now out) ≡ 27 * n) ⌝ }
-    ensures { λ _. ⌜ now (out .exit) ≡ endToEnd (across d (now (c .entry))) n ⌝ }
+// The two halves of c in direction ζ, into parts a and b of out.
+fn split_zeta(c: &[i64], a: usize, b: usize, out: &mut [i64])
+    requires { ⌜ Control (2 ^ 61 - 1) (now c) ⌝ }
+    requires { ⌜ (a < b) × (b < 8) × (27 * (b + 1) ≤ length (now out)) ⌝ }
+    ensures { λ _. ⌜ Split 2 a b (now (c .entry)) (now (out .entry)) (now (out .exit)) ⌝ }
 {
-    for k in 0..n {
-        let h = side(d, k);
-        let from = 27 * origin(d, k);
-        let to = 27 * k;
-        halve(&c[from..from + 27], d, h, t, &mut out[to..to + 27]);
-    }
+    split_row(c, 0, 12, 4, a, b, out);
+    split_row(c, 11, 24, 19, a, b, out);
+    split_row(c, 3, 15, 7, a, b, out);
+    split_row(c, 8, 21, 16, a, b, out);
+    split_row(c, 20, 26, 25, a, b, out);
+    split_row(c, 10, 23, 18, a, b, out);
+    split_row(c, 1, 13, 5, a, b, out);
+    split_row(c, 9, 22, 17, a, b, out);
+    split_row(c, 2, 14, 6, a, b, out);
+}
+
+// The four quarters, halves in direction η of the two halves that c holds.
+fn quarters(c: &[i64], out: &mut [i64])
+    requires { ⌜ Within (2 ^ 61 - 1) (now c) × (length (now c) ≡ 54) × (length (now out) ≡ 108) ⌝ }
+    ensures { λ _. ⌜ now (out .exit) ≡ endToEnd (across 1 (now (c .entry))) 4 ⌝ }
+{
+    split_eta(&c[0..27], 0, 3, out);
+    split_eta(&c[27..54], 1, 2, out);
+}
+
+// The eight eighths, halves in direction ζ of the four quarters that c holds.
+fn eighths(c: &[i64], out: &mut [i64])
+    requires { ⌜ Within (2 ^ 61 - 1) (now c) × (length (now c) ≡ 108) × (length (now out) ≡ 216) ⌝ }
+    ensures { λ _. ⌜ now (out .exit) ≡ endToEnd (across 2 (now (c .entry))) 8 ⌝ }
+{
+    split_zeta(&c[0..27], 0, 4, out);
+    split_zeta(&c[27..54], 1, 5, out);
+    split_zeta(&c[54..81], 2, 6, out);
+    split_zeta(&c[81..108], 3, 7, out);
 }
 
 // The coefficients of all eight children of c, in corner order, 27 words each.
-pub fn cut(c: &[i64], t: &[usize; 81], out: &mut [i64])
+pub fn cut(c: &[i64], out: &mut [i64])
     requires { ⌜ Control (2 ^ 57 - 1) (now c) ⌝ }
-    requires { ⌜ (now t ≡ rows) × (length (now out) ≡ 216) ⌝ }
+    requires { ⌜ length (now out) ≡ 216 ⌝ }
     ensures { λ _. ⌜ now (out .exit) ≡ eight (now (c .entry)) ⌝ }
 {
-    let mut halves = [0i64; 54];
-    let mut quarters = [0i64; 108];
-    cut_across(c, 0, 2, t, &mut halves);
-    cut_across(&halves, 1, 4, t, &mut quarters);
-    cut_across(&quarters, 2, 8, t, out);
+    let mut half = [0i64; 54];
+    let mut quarter = [0i64; 108];
+    split_xi(c, 0, 1, &mut half);
+    quarters(&half, &mut quarter);
+    eighths(&quarter, out);
 }

@@ -36,7 +36,6 @@ points-record-requires c κs =
     let ix = now (s .args .ix) in (
       subst (InRange (base .range)) (sym (c .before .gather .ensures)) (record { small = read-within base (pointsOf coordinates ix) (whole-element base coordinates ix (no-fault e) .points) (length-points coordinates ix) }),
       s .pre .1,
-      s .pre .2,
     )
 
 enum-known-fault : tie.Need-enum-known-fault

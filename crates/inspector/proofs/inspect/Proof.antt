@@ -18,9 +18,6 @@ check-requires c κs = search needs
 enum-told : tie.Need-enum-told
 enum-told c = search needs
 
-table-requires : tie.Need-table-requires
-table-requires c κs = search needs
-
 -- what nothing refuses, and what a refusal comes to
 fits : (e : tie.After-enum-told) → refusalHere base (now (e .before .before .before .before .args .coordinates)) (now (e .before .before .before .before .args .indices)) (now (e .before .before .before .before .args .report)) (e .before .before .before .before .args .depth) ≡ none
 fits e = sym (e .before .before .check .ensures) ∙ ap checkOf (e .enum-told .given .1)
@@ -34,10 +31,10 @@ refused-as s r e = (
 
 write-records-requires : tie.Need-write-records-requires
 write-records-requires c κs =
-    let e = c .before .before .before in
+    let e = c .before in
     let s = e .before .before .before .before in
     let a = accepted-mesh base (length (now (s .args .coordinates))) (length (now (s .args .indices))) (length (now (s .args .report))) (s .args .depth) (fits e) in
-    ((a .eights, a .elements, a .room), (c .before .before .table .ensures, a .depth))
+    ((a .eights, a .elements, a .room), a .depth)
 
 enum-told-2 : tie.Need-enum-told-2
 enum-told-2 c = search needs
@@ -56,7 +53,7 @@ same-length c = search needs
 
 returns : tie.Need-returns
 returns c =
-    let e = c .before .before .before .before .before in
+    let e = c .before .before .before in
     let s = e .before .before .before .before in (
       ap accepted (c .before .write-records .ensures .0) ∙ sym (accepted-answer base (now (s .args .coordinates)) (now (s .args .indices)) (now (s .args .report)) (s .args .depth) (fits e)),
       c .before .write-records .ensures .1 ∙ sym (accepted-space base (now (s .args .coordinates)) (now (s .args .indices)) (now (s .args .report)) (s .args .depth) (fits e)),
@@ -80,7 +77,6 @@ inspect-spec =
     (tie.spec
     check-requires
     enum-told
-    table-requires
     write-records-requires
     enum-told-2
     enum-told-3

@@ -7,24 +7,21 @@ use borrow.Author.Needs.{needs}
 use Rattle.inspector.proofs.points_bounds.Statement.{statement}
 use Rattle.inspector.proofs.points_bounds.Tie as tie
 
-table-requires : tie.Need-table-requires
-table-requires c κs = search needs
-
 coefficients-requires : tie.Need-coefficients-requires
 coefficients-requires c κs = search needs
 
 slice-aggregate-bounds : tie.Need-slice-aggregate-bounds
-slice-aggregate-bounds c = sym (ap length (c .before .coefficients .ensures) ∙ length-coefficients (now (c .before .before .before .before .args .p)))
+slice-aggregate-bounds c = sym (ap length (c .before .coefficients .ensures) ∙ length-coefficients (now (c .before .before .before .args .p)))
 
 bounds-requires : tie.Need-bounds-requires
-bounds-requires c κs = let s = c .before .before .before .before .before in
-    (record { points = now (s .args .p); inside = s .pre .0 .small; expanded = c .before .before .coefficients .ensures }, c .before .before .before .before .table .ensures, s .pre .1)
+bounds-requires c κs = let s = c .before .before .before in
+    (record { points = now (s .args .p); inside = s .pre .0 .small; expanded = c .before .coefficients .ensures }, s .pre .1)
 
 returns : tie.Need-returns
-returns c = let s = c .before .before .before .before .before .before in
-    c .bounds .ensures (now (s .args .p)) (c .before .before .before .coefficients .ensures) (s .pre .0 .small)
+returns c = let s = c .before .before .before .before in
+    c .bounds .ensures (now (s .args .p)) (c .before .before .coefficients .ensures) (s .pre .0 .small)
 
 pub points-bounds-spec : {M : Type 1} → statement M
 points-bounds-spec =
     tie.close
-    (tie.spec table-requires coefficients-requires slice-aggregate-bounds bounds-requires returns)
+    (tie.spec coefficients-requires slice-aggregate-bounds bounds-requires returns)

@@ -15,7 +15,7 @@ slice-aggregate-record c = sym (ap length (c .before .coefficients .ensures) ∙
 
 record-requires : tie.Need-record-requires
 record-requires c κs = let s = c .before .before .before in
-    (record { points = now (s .args .p); inside = s .pre .0 .small; expanded = c .before .coefficients .ensures }, s .pre .1, s .pre .2)
+    (record { points = now (s .args .p); inside = s .pre .0 .small; expanded = c .before .coefficients .ensures }, s .pre .1)
 
 returns : tie.Need-returns
 returns c = c .«record» .ensures (now (c .before .before .before .before .args .p)) (c .before .before .coefficients .ensures)

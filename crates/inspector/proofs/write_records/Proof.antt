@@ -20,10 +20,10 @@ use Rattle.inspector.proofs.write_records.Statement.{statement}
 use Rattle.inspector.proofs.write_records.Tie as tie
 
 abbrev Inv-loop : tie.InvT-loop
-Inv-loop coordinates indices depth t report₀ counts₀ n e₀ report counts e = (e ≤ n) × (report ≡ spaceAt base coordinates indices depth e report₀) × (countsHeld counts ≡ countsOf (firstRecords base coordinates indices depth e))
+Inv-loop coordinates indices depth report₀ counts₀ n e₀ report counts e = (e ≤ n) × (report ≡ spaceAt base coordinates indices depth e report₀) × (countsHeld counts ≡ countsOf (firstRecords base coordinates indices depth e))
 
 abbrev μ-loop : tie.MeasureT-loop
-μ-loop coordinates indices depth t report₀ counts₀ n e₀ report counts e = n - e
+μ-loop coordinates indices depth report₀ counts₀ n e₀ report counts e = n - e
 
 loop-holds : tie.Need-loop-holds Inv-loop μ-loop
 loop-holds c = (zero-le, refl, refl)
@@ -48,7 +48,7 @@ part-element-end c = search needs
 
 element-requires : tie.Need-element-requires Inv-loop μ-loop
 element-requires c κs = let l = c .before .before in let s = l .before .before in
-    (part-length (now (s .args .indices)) (l .loop .e) (c .before .loop-test .taken), s .pre .1 .0, s .pre .1 .1)
+    (part-length (now (s .args .indices)) (l .loop .e) (c .before .loop-test .taken), s .pre .1)
 
 array-copy-out-kind : tie.Need-array-copy-out-kind Inv-loop μ-loop
 array-copy-out-kind c = search needs

@@ -21,45 +21,45 @@ use Rattle.subdivision.proofs.cut.Reads as cut-reads
 use Rattle.search.proofs.+survey.{statement}
 use Rattle.search.proofs.+survey.Tie.{close}
 
-abbrev μ-survey : Measures 2 survey-kinds.ps ℕ
+abbrev μ-survey : Measures 1 survey-kinds.ps ℕ
 μ-survey κs a = a .1 .1 .0
 
-abbrev survey-at : ℕ → In 2 survey-kinds.ps
-survey-at t = and 2 survey-kinds.ps (is 2 survey-kinds.ps μ-survey t) survey.Pre
+abbrev survey-at : ℕ → In 1 survey-kinds.ps
+survey-at t = and 1 survey-kinds.ps (is 1 survey-kinds.ps μ-survey t) survey.Pre
 
-abbrev survey-below : ℕ → In 2 survey-kinds.ps
-survey-below t = and 2 survey-kinds.ps (falls 2 survey-kinds.ps _<_ μ-survey t) survey.Pre
+abbrev survey-below : ℕ → In 1 survey-kinds.ps
+survey-below t = and 1 survey-kinds.ps (falls 1 survey-kinds.ps _<_ μ-survey t) survey.Pre
 
 -- what the calls ask and tell, in the order of the code
 abbrev known : ℕ → survey-lts.Claims
 known t = (with-cell-reads.Asked, with-cell-reads.Learnt, cut-reads.Asked, cut-reads.Learnt, child-at-reads.Asked, child-at-reads.Learnt, survey-below t, survey.Post)
 
 abbrev survey-Inv-loop : survey-lts.InvT-loop
-survey-Inv-loop g q left t parts s₀ k₀ s k = (k ≤ 8) × (extremesOf s ≡ extremesOver (cellOf q g) (extremesOf s₀) left k)
+survey-Inv-loop g q left parts s₀ k₀ s k = (k ≤ 8) × (extremesOf s ≡ extremesOver (cellOf q g) (extremesOf s₀) left k)
 
 abbrev survey-μ-loop : survey-lts.MeasureT-loop
-survey-μ-loop g q left t parts s₀ k₀ s k = 8 - k
+survey-μ-loop g q left parts s₀ k₀ s k = 8 - k
 
 survey-with-cell-requires : (t : ℕ) → survey-lts.Need-with-cell-requires (known t) (survey-at t) survey.Post survey-Inv-loop survey-μ-loop
-survey-with-cell-requires t c κs = c .before .pre .1 .0 .control .sized
+survey-with-cell-requires t c κs = c .before .pre .1 .control .sized
 
 survey-returns : (t : ℕ) → survey-lts.Need-returns (known t) (survey-at t) survey.Post survey-Inv-loop survey-μ-loop
 survey-returns t c = let s = c .before .before in
-    c .with-cell .ensures ∙ with-cell (cellOf (s .args .q) (now (s .args .g))) (s .pre .1 .0 .control .sized) (s .args .left) (c .before .if1 .taken) (extremesOf (s .args .r))
+    c .with-cell .ensures ∙ with-cell (cellOf (s .args .q) (now (s .args .g))) (s .pre .1 .control .sized) (s .args .left) (c .before .if1 .taken) (extremesOf (s .args .r))
 
 survey-slice-aggregate-cut : (t : ℕ) → survey-lts.Need-slice-aggregate-cut (known t) (survey-at t) survey.Post survey-Inv-loop survey-μ-loop
 survey-slice-aggregate-cut t c = refl
 
 survey-cut-requires : (t : ℕ) → survey-lts.Need-cut-requires (known t) (survey-at t) survey.Post survey-Inv-loop survey-μ-loop
 survey-cut-requires t c κs = let s = c .before .before in
-    (cut-room (s .args .q) (now (s .args .g)) (s .args .left) (s .pre .1 .0) (c .before .if1 .left), (s .pre .1 .1, refl))
+    (cut-room (s .args .q) (now (s .args .g)) (s .args .left) (s .pre .1) (c .before .if1 .left), refl)
 
 survey-loop-holds : (t : ℕ) → survey-lts.Need-loop-holds (known t) (survey-at t) survey.Post survey-Inv-loop survey-μ-loop
 survey-loop-holds t c = (zero-le, refl)
 
 survey-child-at-requires : (t : ℕ) → survey-lts.Need-child-at-requires (known t) (survey-at t) survey.Post survey-Inv-loop survey-μ-loop
 survey-child-at-requires t c κs = let e = c .before .before .before .before .before in
-    let room = e .before .pre .1 .0 in
+    let room = e .before .pre .1 in
     let some = e .if1 .left in
     (room .cell, omega (arith, room .depth), c .loop-test .taken)
 
@@ -94,11 +94,8 @@ survey-survey-requires t c κs =
     let h : k < 8 = omega arith in
     let some = e .if1 .left in (
       omega (arith, s .pre .0),
-      (
-        subst (λ (xs : List ℤ). Room (a .child-at .result) xs (s .args .left - 1)) (sym (part-is _ (now (s .args .g)) k (l .before .before .cut .ensures) h))
-            (child-room (s .args .q) (a .child-at .result) (now (s .args .g)) (s .args .left) k (s .pre .1 .0) some (a .child-at .ensures)),
-        s .pre .1 .1,
-      ),
+      subst (λ (xs : List ℤ). Room (a .child-at .result) xs (s .args .left - 1)) (sym (part-is _ (now (s .args .g)) k (l .before .before .cut .ensures) h))
+          (child-room (s .args .q) (a .child-at .result) (now (s .args .g)) (s .args .left) k (s .pre .1) some (a .child-at .ensures)),
     )
 
 survey-add-k : (t : ℕ) → survey-lts.Need-add-k (known t) (survey-at t) survey.Post survey-Inv-loop survey-μ-loop

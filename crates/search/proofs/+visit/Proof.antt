@@ -23,14 +23,14 @@ use Rattle.subdivision.proofs.cut.Reads as cut-reads
 use Rattle.search.proofs.+visit.{statement}
 use Rattle.search.proofs.+visit.Tie.{close}
 
-abbrev μ-visit : Measures 2 visit-kinds.ps ℕ
+abbrev μ-visit : Measures 1 visit-kinds.ps ℕ
 μ-visit κs a = a .1 .1 .0
 
-abbrev visit-at : ℕ → In 2 visit-kinds.ps
-visit-at t = and 2 visit-kinds.ps (is 2 visit-kinds.ps μ-visit t) visit.Pre
+abbrev visit-at : ℕ → In 1 visit-kinds.ps
+visit-at t = and 1 visit-kinds.ps (is 1 visit-kinds.ps μ-visit t) visit.Pre
 
-abbrev visit-below : ℕ → In 2 visit-kinds.ps
-visit-below t = and 2 visit-kinds.ps (falls 2 visit-kinds.ps _<_ μ-visit t) visit.Pre
+abbrev visit-below : ℕ → In 1 visit-kinds.ps
+visit-below t = and 1 visit-kinds.ps (falls 1 visit-kinds.ps _<_ μ-visit t) visit.Pre
 
 -- a pass that a visit comes to, and its count
 counted : (n : ℕ) (s : Cell) (r r′ : Pass) → r′ ≡ visited n s r → (r′ ≡ visited n s r) × (r′ .count ≤ r .count + 8 ^ n)
@@ -41,10 +41,10 @@ abbrev known : ℕ → visit-lts.Claims
 known t = (ended-reads.Asked, ended-reads.Learnt, open-cell-reads.Asked, open-cell-reads.Learnt, lowest-reads.Asked, lowest-reads.Learnt, cut-reads.Asked, cut-reads.Learnt, child-at-reads.Asked, child-at-reads.Learnt, visit-below t, visit.Post)
 
 abbrev visit-Inv-loop : visit-lts.InvT-loop
-visit-Inv-loop g q left t parts s₀ k₀ s k = (k ≤ 8) × (passOf s ≡ over (cellOf q g) (passOf s₀) left k) × (s .count ≤ s₀ .count + k * 8 ^ (left - 1))
+visit-Inv-loop g q left parts s₀ k₀ s k = (k ≤ 8) × (passOf s ≡ over (cellOf q g) (passOf s₀) left k) × (s .count ≤ s₀ .count + k * 8 ^ (left - 1))
 
 abbrev visit-μ-loop : visit-lts.MeasureT-loop
-visit-μ-loop g q left t parts s₀ k₀ s k = 8 - k
+visit-μ-loop g q left parts s₀ k₀ s k = 8 - k
 
 visit-ended-requires : (t : ℕ) → visit-lts.Need-ended-requires (known t) (visit-at t) visit.Post visit-Inv-loop visit-μ-loop
 visit-ended-requires t c κs = tt
@@ -57,7 +57,7 @@ visit-open-cell-requires : (t : ℕ) → visit-lts.Need-open-cell-requires (know
 visit-open-cell-requires t c κs = let s = c .before .before .before in
     let room = s .pre .1 .0 in
     let e : 8 ^ (s .args .left) ≡ 1 = ap (λ (n : ℕ). 8 ^ n) (c .if2 .taken) in
-    (record { cell = room .cell; depth = omega (arith, room .cell .level); control = room .control }, omega (arith, e, s .pre .1 .2), sym (c .before .before .ended .ensures) ∙ c .before .if1 .left)
+    (record { cell = room .cell; depth = omega (arith, room .cell .level); control = room .control }, omega (arith, e, s .pre .1 .1), sym (c .before .before .ended .ensures) ∙ c .before .if1 .left)
 
 visit-returns-2 : (t : ℕ) → visit-lts.Need-returns-2 (known t) (visit-at t) visit.Post visit-Inv-loop visit-μ-loop
 visit-returns-2 t c = let s = c .before .before .before .before in
@@ -76,7 +76,7 @@ visit-slice-aggregate-cut t c = refl
 
 visit-cut-requires : (t : ℕ) → visit-lts.Need-cut-requires (known t) (visit-at t) visit.Post visit-Inv-loop visit-μ-loop
 visit-cut-requires t c κs = let s = c .before .before .before .before .before .before in
-    (cut-room (s .args .q) (now (s .args .g)) (s .args .left) (s .pre .1 .0) (c .before .before .before .if2 .left), (s .pre .1 .1, refl))
+    (cut-room (s .args .q) (now (s .args .g)) (s .args .left) (s .pre .1 .0) (c .before .before .before .if2 .left), refl)
 
 visit-loop-holds : (t : ℕ) → visit-lts.Need-loop-holds (known t) (visit-at t) visit.Post visit-Inv-loop visit-μ-loop
 visit-loop-holds t c = (zero-le, refl, omega arith)
@@ -120,8 +120,7 @@ visit-visit-requires t c κs =
       (
         subst (λ (xs : List ℤ). Room (c .before .before .child-at .result) xs (s .args .left - 1)) (sym (part-is _ (now (s .args .g)) k (l .before .before .cut .ensures) h))
             (child-room (s .args .q) (c .before .before .child-at .result) (now (s .args .g)) (s .args .left) k (s .pre .1 .0) some (c .before .before .child-at .ensures)),
-        s .pre .1 .1,
-        omega (arith, l .loop .inv .2, s .pre .1 .2, pow-left (s .args .left) some, times-most k x h),
+        omega (arith, l .loop .inv .2, s .pre .1 .1, pow-left (s .args .left) some, times-most k x h),
       ),
     )
 

@@ -15,12 +15,12 @@ whole-requires c κs = search needs
 
 survey-requires : tie.Need-survey-requires
 survey-requires c κs = let s = c .before in
-    (whole-room (c .whole .result) (now (s .args .g)) (s .args .depth) (c .whole .ensures) (points-control (now (s .args .g)) (s .pre .0)) (s .pre .2), s .pre .1)
+    (whole-room (c .whole .result) (now (s .args .g)) (s .args .depth) (c .whole .ensures) (points-control (now (s .args .g)) (s .pre .0)) (s .pre .1))
 
 returns : tie.Need-returns
 returns c xs e h = let s = c .before .before in
     c .survey .ensures ∙ ap (λ (q : Cell). extremes (s .args .depth) q (record { low = greatest; high = greatest })) (whole-cell (c .before .whole .result) (now (s .args .g)) (c .before .whole .ensures))
-    ∙ bounds-are xs (s .args .depth) (s .pre .2) h (now (s .args .g)) e
+    ∙ bounds-are xs (s .args .depth) (s .pre .1) h (now (s .args .g)) e
 
 pub bounds-spec : {M : Type 1} → statement M
 bounds-spec = tie.close (tie.spec whole-requires survey-requires returns)

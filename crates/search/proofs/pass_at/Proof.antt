@@ -13,7 +13,7 @@ whole-requires c κs = search needs
 
 visit-requires : tie.Need-visit-requires
 visit-requires c κs = let s = c .before in
-    (whole-room (c .whole .result) (now (s .args .g)) (s .args .level) (c .whole .ensures) (s .pre .0) (s .pre .2), s .pre .1, s .pre .3)
+    (whole-room (c .whole .result) (now (s .args .g)) (s .args .level) (c .whole .ensures) (s .pre .0) (s .pre .1), s .pre .2)
 
 returns : tie.Need-returns
 returns c = let s = c .before .before in

@@ -18,13 +18,13 @@ use Rattle.search.proofs.record.Statement.{statement}
 use Rattle.search.proofs.record.Tie as tie
 
 abbrev Inv-loop : tie.InvT-loop
-Inv-loop g depth t m₀ r₀ m r = (m ≤ depth) × (r .count ≤ most m) × ((xs : List ℤ) → g ≡ coefficients xs → At xs m (passOf r))
+Inv-loop g depth m₀ r₀ m r = (m ≤ depth) × (r .count ≤ most m) × ((xs : List ℤ) → g ≡ coefficients xs → At xs m (passOf r))
 
 abbrev μ-loop : tie.MeasureT-loop
-μ-loop g depth t m₀ r₀ m r = depth - m
+μ-loop g depth m₀ r₀ m r = depth - m
 
 pass-at-requires : tie.Need-pass-at-requires Inv-loop μ-loop
-pass-at-requires c κs = (points-control (now (c .args .g)) (c .pre .0), c .pre .1, zero-le, omega arith)
+pass-at-requires c κs = (points-control (now (c .args .g)) (c .pre .0), zero-le, omega arith)
 
 loop-holds : tie.Need-loop-holds Inv-loop μ-loop
 loop-holds c = let g = now (c .before .args .g) in (zero-le, c .pass-at .ensures .1, λ xs e. at-first xs g e (passOf (c .pass-at .result)) (c .pass-at .ensures .0))
@@ -54,8 +54,8 @@ pass-at-requires-2 c κs =
     let l = c .before .before in
     let s = l .before .before in
     let go = going c in
-    let h : l .loop .m < 3 = omega (arith, s .pre .2) in
-    (points-control (now (s .args .g)) (s .pre .0), s .pre .1, omega arith, count-room (l .loop .m) (l .loop .r .count) h (l .loop .inv .1))
+    let h : l .loop .m < 3 = omega (arith, s .pre .1) in
+    (points-control (now (s .args .g)) (s .pre .0), omega arith, count-room (l .loop .m) (l .loop .r .count) h (l .loop .inv .1))
 
 loop-less : tie.Need-loop-less Inv-loop μ-loop
 loop-less c = let go = going (c .before) in omega arith

@@ -9,6 +9,7 @@ use lib.IntN.{ℤ}
 use Rattle.foundation.specs.Words.{Within}
 use Rattle.subdivision.specs.Children.{endToEnd, across}
 use Rattle.subdivision.specs.ChildLaws.{within-more, across-next, eight-across}
+use Rattle.subdivision.specs.SplitLaws.{halves-made}
 use borrow.Author.Needs.{needs}
 use Rattle.subdivision.proofs.cut.Statement.{statement}
 use Rattle.subdivision.proofs.cut.Tie as tie
@@ -25,45 +26,53 @@ module _ (s : tie.Start) {xs : List ℤ} (e : xs ≡ endToEnd (across 0 (s .args
   quarters-are {ys} f = let next = across-next (4 * (2 ^ 57 - 1)) 1 xs ys 4 f (halves-next .0) in
       (within-more (16 * (2 ^ 57 - 1)) (2 ^ 61 - 1) ys (lit≤ tt) (next .0), next .1)
 
-slice-aggregate-cut-across : tie.Need-slice-aggregate-cut-across
-slice-aggregate-cut-across c = search needs
+-- after the first split
+module _ (c : tie.After-split-xi) where
+  abbrev start : tie.Start
+  start = c .before .before
 
-cut-across-requires : tie.Need-cut-across-requires
-cut-across-requires c κs = let s = c .before in ((within-more (2 ^ 57 - 1) (2 ^ 61 - 1) (s .args .c .now) (lit≤ tt) (s .pre .0 .within), s .pre .0 .sized), (s .pre .1 .0, omega arith, omega arith, refl))
+  halves : c .split-xi .last .1 .1 .1 .0 ≡ endToEnd (across 0 (start .args .c .now)) 2
+  halves = halves-made (start .args .c .now) (start .pre .0 .sized) refl (c .split-xi .ensures)
 
-slice-aggregate-cut-across-2 : tie.Need-slice-aggregate-cut-across-2
-slice-aggregate-cut-across-2 c = search needs
+slice-aggregate-split-xi : tie.Need-slice-aggregate-split-xi
+slice-aggregate-split-xi c = search needs
 
-slice-aggregate-cut-across-3 : tie.Need-slice-aggregate-cut-across-3
-slice-aggregate-cut-across-3 c = search needs
+split-xi-requires : tie.Need-split-xi-requires
+split-xi-requires c κs = let s = c .before in (record { sized = s .pre .0 .sized; within = within-more (2 ^ 57 - 1) (2 ^ 61 - 1) (s .args .c .now) (lit≤ tt) (s .pre .0 .within) }, (omega arith, omega arith, omega arith))
 
-cut-across-requires-2 : tie.Need-cut-across-requires-2
-cut-across-requires-2 c κs = let s = c .before .before .before .before .before in (halves-are s (c .before .before .before .cut-across .ensures), (s .pre .1 .0, omega arith, omega arith, refl))
+slice-aggregate-quarters : tie.Need-slice-aggregate-quarters
+slice-aggregate-quarters c = search needs
 
-slice-aggregate-cut-across-4 : tie.Need-slice-aggregate-cut-across-4
-slice-aggregate-cut-across-4 c = search needs
+slice-aggregate-quarters-2 : tie.Need-slice-aggregate-quarters-2
+slice-aggregate-quarters-2 c = search needs
 
-cut-across-requires-3 : tie.Need-cut-across-requires-3
-cut-across-requires-3 c κs = let s = c .before .before .before .before .before .before .before .before .before in (quarters-are s (c .before .before .before .before .before .before .before .cut-across .ensures) (c .before .before .before .cut-across2 .ensures), (s .pre .1 .0, omega arith, omega arith, s .pre .1 .1))
+quarters-requires : tie.Need-quarters-requires
+quarters-requires c κs = let h = c .before .before .before in let (w, l) = halves-are (start h) (halves h) in (w, l, refl)
+
+slice-aggregate-eighths : tie.Need-slice-aggregate-eighths
+slice-aggregate-eighths c = search needs
+
+eighths-requires : tie.Need-eighths-requires
+eighths-requires c κs = let h = c .before .before .before .before .before .before .before in let (w, l) = quarters-are (start h) (halves h) (c .before .before .before .quarters .ensures) in (w, l, start h .pre .1)
 
 same-length : tie.Need-same-length
 same-length c = search needs
 
 returns : tie.Need-returns
-returns c = let s = c .before .before .before .before .before .before .before .before .before .before .before in c .before .cut-across3 .ensures
-    ∙ ap (λ (xs : List ℤ). endToEnd (across 2 xs) 8) (c .before .before .before .before .before .cut-across2 .ensures ∙ ap (λ (xs : List ℤ). endToEnd (across 1 xs) 4) (c .before .before .before .before .before .before .before .before .before .cut-across .ensures))
-    ∙ eight-across (s .args .c .now) (s .pre .0 .sized)
+returns c = let h = c .before .before .before .before .before .before .before .before .before in c .before .eighths .ensures
+    ∙ ap (λ (xs : List ℤ). endToEnd (across 2 xs) 8) (c .before .before .before .before .before .quarters .ensures ∙ ap (λ (xs : List ℤ). endToEnd (across 1 xs) 4) (halves h))
+    ∙ eight-across (start h .args .c .now) (start h .pre .0 .sized)
 
 pub cut-spec : {M : Type 1} → statement M
 cut-spec =
     tie.close
     (tie.spec
-    slice-aggregate-cut-across
-    cut-across-requires
-    slice-aggregate-cut-across-2
-    slice-aggregate-cut-across-3
-    cut-across-requires-2
-    slice-aggregate-cut-across-4
-    cut-across-requires-3
+    slice-aggregate-split-xi
+    split-xi-requires
+    slice-aggregate-quarters
+    slice-aggregate-quarters-2
+    quarters-requires
+    slice-aggregate-eighths
+    eighths-requires
     same-length
     returns)
