@@ -1,11 +1,13 @@
 // Cell addresses and their moves.
 // The reference cube is the cell of level 0, and a cell cut into eight gives cells one level finer (document 01 says "cube" for a cell
 // of any level). The crate offers `Address` with the moves `child`, `corner` and `parent`. Each takes the address by value and hands back
-// the moved one, or the same one where the move can't be made. They ask nothing of the caller: any address and any number is answered,
-// as `childAddress`, `cornerAddress` and `parentAddress` of the definitions say.
+// the moved one, or the same one where the move can't be made. `side` is the rule by which corners and children are numbered. They ask
+// nothing of the caller: any address and any number is answered, as `childAddress`, `cornerAddress`, `parentAddress` and `side` of the
+// definitions say.
 ghost use mathlib.Core.Path.{_≡_};
 ghost use Prim.Native.Nat.{_^_, _<_, _≤_};
 ghost use Rattle.definitions.specs.Limits.{base};
+ghost use Rattle.definitions.specs.Jacobian.{side as sideOf};
 ghost use Rattle.definitions.specs.Address.{isCell, isCorner, childAddress, cornerAddress, parentAddress};
 ghost use Rattle.address.specs.Meaning.{addressOf, moveOf, offsetBy};
 
@@ -43,6 +45,22 @@ fn is_corner(n: u32) -> bool
     (1 <= n) & (n <= 8)
 }
 
+// The side, 0 or 1, of corner k, 0 to 7, in direction 0, 1 or 2; 0 of any other number.
+pub fn side(d: u32, k: u32) -> u32
+    ensures { λ r. ⌜ (r ≡ sideOf d k) × (r ≤ 1) ⌝ }
+{
+    if 8 <= k {
+        return 0;
+    }
+    if d == 0 {
+        return (k + 1) / 2 % 2;
+    }
+    if d == 1 {
+        return k / 2 % 2;
+    }
+    k / 4
+}
+
 impl Address {
     // Whether the address is a cell's: its level is at most the largest depth, and each grid number is below 2^level.
     fn is_cell(self) -> bool
@@ -64,9 +82,9 @@ impl Address {
         let k = n - 1;
         Address {
             level: self.level,
-            a: self.a + (k + 1) / 2 % 2,
-            b: self.b + k / 2 % 2,
-            c: self.c + k / 4,
+            a: self.a + side(0, k),
+            b: self.b + side(1, k),
+            c: self.c + side(2, k),
         }
     }
 

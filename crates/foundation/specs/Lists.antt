@@ -5,7 +5,7 @@ use mathlib.Core.List.{List, [], _∷_, _++_, append-assoc, map}
 use Prim.Native.Nat.{ℕ, zero, suc, _+_, _<_, _≤_}
 use native.Mathlib.Omega.{arith}
 use native.Mathlib.Decide.{ℕ-discrete}
-use lib.Dec.{T}
+use lib.Dec.{T, eqb, eqb→eq}
 use lib.ListN.{getD, length, length-append}
 
 -- the lists of f, one after the other
@@ -143,3 +143,7 @@ below f (suc m) t n h = go (f m) refl (below f m) t
     go : (b : Bool) → f m ≡ b → (T (allBelow m f) → (n : ℕ) → n < m → T (f n)) → T (elim b [ true ↦ allBelow m f | false ↦ false ]) → T (f n)
     go true e r t = elim (ℕ-discrete n m) [ yes p ↦ subst (λ (k : ℕ). T (f k)) (sym p) (subst T (sym e) tt) | no q ↦ r t n (omega arith) ]
     go false e r t = absurd t
+
+-- two functions of numbers, compared by computing
+pub equal-below : (f g : ℕ → ℕ) (m : ℕ) → T (allBelow m (λ n. eqb (f n) (g n))) → (n : ℕ) → n < m → f n ≡ g n
+equal-below f g m t n h = eqb→eq (f n) (g n) (below (λ n. eqb (f n) (g n)) m t n h)

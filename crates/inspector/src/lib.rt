@@ -58,12 +58,10 @@ fn element(coordinates: &[i32], ix: &[u32], depth: u32) -> [i64; 8]
     requires { ⌜ (length (now ix) ≡ 8) × (depth ≤ base .depth) ⌝ }
     ensures { λ r. ⌜ r ≡ elementRecord base (now (coordinates .entry)) (now (ix .entry)) depth ⌝ }
 {
-    let fault = mesh::fault(coordinates, ix);
+    let mut p = [0i32; 24];
+    let fault = mesh::fault(coordinates, ix, &mut p);
     match fault {
-        Element::Whole => {
-            let p = mesh::gather(coordinates, ix);
-            points_record(&p, depth)
-        }
+        Element::Whole => points_record(&p, depth),
         Element::Missing(place, index) => mesh::fault_words(fault),
         Element::Outside(place, axis) => mesh::fault_words(fault),
     }

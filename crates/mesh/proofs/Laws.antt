@@ -6,7 +6,7 @@ use Prim.Native.Nat.{ℕ, zero, suc, _+_, _<_}
 use native.Mathlib.Omega.{arith}
 use native.Mathlib.Decide.{ℕ-discrete}
 use lib.Dec.{leb, leb·suc-suc}
-use lib.ListN.{getD, length, set}
+use lib.ListN.{getD, length, set, length-set}
 use lib.Seq.{getD-set-same, getD-set-other}
 use lib.IntN.{ℤ, pos, negsuc}
 use lib.Signed.{leZ}
@@ -24,6 +24,16 @@ fill-next p q k v n below e j l = elim (ℕ-discrete k j) [
   | yes r ↦ subst (λ (i : ℕ). getD (set p k v) i (pos 0) ≡ getD q i (pos 0)) r (getD-set-same p k v (pos 0) n ∙ e)
   | no r ↦ getD-set-other p k j v (pos 0) (λ s. r (sym s)) ∙ below j (omega arith)
 ]
+
+-- and of the next three
+pub fill-three : (p q : List ℤ) (k : ℕ) (x y z : ℤ) → k + 2 < length p → ((j : ℕ) → j < k → getD p j (pos 0) ≡ getD q j (pos 0)) → x ≡ getD q k (pos 0) → y ≡ getD q (k + 1) (pos 0) → z ≡ getD q (k + 2) (pos 0)
+    → (j : ℕ) → j < k + 3 → getD (set (set (set p k x) (k + 1) y) (k + 2) z) j (pos 0) ≡ getD q j (pos 0)
+fill-three p q k x y z n below e f g =
+    let one = set p k x in
+    let two = set one (k + 1) y in
+    let first = fill-next p q k x (omega arith) below e in
+    let second = fill-next one q (k + 1) y (simp length-set (omega arith)) first f in
+    λ j l. fill-next two q (k + 2) z (simp length-set (omega arith)) (λ i m. second i (omega arith)) g j (omega arith)
 
 -- a kind that is none of the first three
 pub counted-last : (k : ℕ) (n : Counts) → (k ≡ 0 → ⊥) → (k ≡ 1 → ⊥) → (k ≡ 2 → ⊥)

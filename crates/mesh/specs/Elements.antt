@@ -20,7 +20,7 @@ use Rattle.mesh.specs.Meaning.{missingIndex}
 use Rattle.mesh.specs.Search.{first-below, first-none}
 
 -- a test that refuses has not accepted
-never : {A B : Type 0} {x : A} → some x ≡ none → B
+pub never : {A B : Type 0} {x : A} → some x ≡ none → B
 never e = let z : _≡_ {A = ℕ} 0 1 = cc in absurd (omega arith)
 
 -- ---- which meshes are refused, by the four tests
@@ -100,12 +100,16 @@ module _ (coordinates : List ℤ) (ix : List ℕ) where
   unfolding pointsOf
   length-points = refl
 
-  pub point-at : (k : ℕ) → k < 24 → getD (pointsOf coordinates ix) k (pos 0) ≡ getD coordinates (3 * getD ix (k / 3) 0 + k % 3) (pos 0)
+  point-at : (k : ℕ) → k < 24 → getD (pointsOf coordinates ix) k (pos 0) ≡ getD coordinates (3 * getD ix (k / 3) 0 + k % 3) (pos 0)
   unfolding pointsOf
   point-at k h =
       let f : ℕ → ℤ = λ k. getD coordinates (3 * getD ix (k / 3) 0 + k % 3) (pos 0) in
       let z : 0 + k ≡ k = omega arith in
       getD-tabulate f 0 24 k (pos 0) h ∙ ap f z
+
+  pub axis-at : (k t : ℕ) → k < 8 → t < 3 → getD (pointsOf coordinates ix) (3 * k + t) (pos 0) ≡ getD coordinates (3 * getD ix k 0 + t) (pos 0)
+  axis-at k t h l = let p : (3 * k + t) / 3 ≡ k = omega arith in let q : (3 * k + t) % 3 ≡ t = omega arith in
+      point-at (3 * k + t) (omega arith) ∙ (λ i. getD coordinates (3 * getD ix (p i) 0 + q i) (pos 0))
 
 -- ---- an index that names no node
 module _ (nodes : ℕ) (ix : List ℕ) where

@@ -4,6 +4,7 @@
 // 1 to 8 of one of its indices. Every answer is an equation with `Mesh` and `Record` of the definitions at the limits `base`.
 ghost use mathlib.Core.Path.{_≡_};
 ghost use mathlib.Core.List.{_++_};
+ghost use mathlib.Core.Option.{none};
 ghost use Prim.Native.Nat.{ℕ, _+_, _-_, _*_, _/_, _^_, _<_, _≤_};
 ghost use lib.ListN.{length, getD, take, drop};
 ghost use lib.IntN.{pos, natAbs};
@@ -117,24 +118,29 @@ pub fn out_of_range(p: &[i32; 24]) -> First
 }
 
 // The eight points of an element whose indices all name nodes: x, y, z of each place in turn.
-pub fn gather(coordinates: &[i32], ix: &[u32]) -> [i32; 24]
+fn gather(coordinates: &[i32], ix: &[u32], p: &mut [i32; 24])
     requires { ⌜ length (now ix) ≡ 8 ⌝ }
+    requires { ⌜ length (now p) ≡ 24 ⌝ }
     requires { ⌜ ((k : ℕ) → k < 8 → getD (now ix) k 0 < length (now coordinates) / 3) ⌝ }
-    ensures { λ r. ⌜ r ≡ pointsOf (now (coordinates .entry)) (now (ix .entry)) ⌝ }
+    ensures { λ _. ⌜ now (p .exit) ≡ pointsOf (now (coordinates .entry)) (now (ix .entry)) ⌝ }
 {
-    let mut p = [0i32; 24];
-    for k in 0..24 {
-        let node = ix[k / 3] as usize;
-        let x = coordinates[3 * node + k % 3];
-        p[k] = x;
+    for k in 0..8 {
+        let at = 3 * (ix[k] as usize);
+        let x = coordinates[at];
+        let y = coordinates[at + 1];
+        let z = coordinates[at + 2];
+        p[3 * k] = x;
+        p[3 * k + 1] = y;
+        p[3 * k + 2] = z;
     }
-    p
 }
 
-// Why an element is refused, if it is: all eight indices are tested before any coordinate.
-pub fn fault(coordinates: &[i32], ix: &[u32]) -> Element
+// Why an element is refused, if it is: all eight indices are tested before any coordinate. Of a whole element, its points.
+pub fn fault(coordinates: &[i32], ix: &[u32], p: &mut [i32; 24]) -> Element
     requires { ⌜ length (now ix) ≡ 8 ⌝ }
+    requires { ⌜ length (now p) ≡ 24 ⌝ }
     ensures { λ r. ⌜ elementOf r ≡ faultOf base (now (coordinates .entry)) (now (ix .entry)) ⌝ }
+    ensures { λ r. ⌜ (elementOf r ≡ none → now (p .exit) ≡ pointsOf (now (coordinates .entry)) (now (ix .entry))) ⌝ }
 {
     let missing = missing_index(coordinates.len() / 3, ix);
     if let First::At(k) = missing {
@@ -142,8 +148,8 @@ pub fn fault(coordinates: &[i32], ix: &[u32]) -> Element
         let index = ix[k as usize];
         return Element::Missing(place, index);
     }
-    let p = gather(coordinates, ix);
-    let outside = out_of_range(&p);
+    gather(coordinates, ix, p);
+    let outside = out_of_range(p);
     if let First::At(k) = outside {
         let place = k / 3 + 1;
         let axis = k % 3 + 1;

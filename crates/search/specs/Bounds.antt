@@ -21,6 +21,7 @@ use Rattle.expansion.specs.Cells.{CellOf, all-cells, corner-is}
 use Rattle.expansion.specs.Size.{coefficient-size}
 use Rattle.verdict.specs.Positive.{findings-of, corners-of}
 use Rattle.verdict.specs.Search.{cornerValues}
+use Rattle.verdict.specs.Clear.{childControl, child-control}
 use Rattle.verdict.specs.Extremes.{Extremes, withAll, extremes, extremes-bounds}
 use Rattle.search.specs.Meaning.{size}
 use Rattle.search.specs.Levels.{wholeOf, whole-is}
@@ -47,11 +48,12 @@ module _ (s : Cell) (sized : length (s .control) ≡ 27) where
   unfolding cornerValues
   corner-values = values-from (s .control) (λ k. record { number = suc k; a = s .a + side 0 k; b = s .b + side 1 k; c = s .c + side 2 k; value = getD (s .control) k (pos 0) }) (λ k. refl) 0 8 (omega arith)
 
-  pub with-cell : (n : ℕ) → n ≡ 0 → (r : Extremes) → withControl (s .control) r ≡ extremes n s r
+  -- the cell at the end
+  pub with-last : (n : ℕ) → n ≡ 0 → (g : List ℤ) → s .control ≡ g → (r : Extremes) → withControl g r ≡ extremes n s r
   unfolding extremes
-  with-cell n e r = (λ i. record { low = leastFrom (r .low) (sym coefficient-values i); high = leastFrom (r .high) (sym corner-values i) }) ∙ ap (λ (m : ℕ). extremes m s r) (sym e)
+  with-last n e g h r = ap (λ (c : List ℤ). withControl c r) (sym h) ∙ (λ i. record { low = leastFrom (r .low) (sym coefficient-values i); high = leastFrom (r .high) (sym corner-values i) }) ∙ ap (λ (m : ℕ). extremes m s r) (sym e)
 
--- the first k children, where n levels are left
+-- ---- the first k children, where n levels are left
 abbrev pub extremesOver : Cell → Extremes → ℕ → ℕ → Extremes
 extremesOver s r n zero = r
 extremesOver s r n (suc k) = extremes (n - 1) (child s k) (extremesOver s r n k)
@@ -67,7 +69,10 @@ all-children s r (suc n) h = let p : suc n - 1 ≡ n = omega arith in ap (λ (m 
 pub extremes-last : (s : Cell) (r : Extremes) (n k : ℕ) → k ≡ 8 → (n ≡ 0 → ⊥) → extremesOver s r n k ≡ extremes n s r
 extremes-last s r n k e h = ap (extremesOver s r n) e ∙ all-children s r n h
 
--- one value more
+pub child-of : (s : Cell) (k : ℕ) (g xs : List ℤ) → s .control ≡ g → xs ≡ childControl g k → child s k .control ≡ xs
+child-of s k g xs h e = sym (e ∙ ap (λ (c : List ℤ). childControl c k) (sym h) ∙ child-control s k)
+
+-- ---- one value more
 from-append : (v : ℤ) (xs : List ℤ) (y : ℤ) → leastFrom v (xs ++ (y ∷ [])) ≡ lesser (leastFrom v xs) y
 from-append v [] y = refl
 from-append v (x ∷ xs) y = from-append (lesser v x) xs y

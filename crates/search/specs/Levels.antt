@@ -4,25 +4,20 @@ use mathlib.Core.Bool.{Bool, true, false, true≢false}
 use mathlib.Core.List.{List}
 use mathlib.Core.Option.{none}
 use Prim.Native.Nat.{ℕ, zero, suc, _+_, _*_, _^_, _<_, _≤_}
-use native.Mathlib.Nat.{pow-succ', pow-le-pow-right, zero-lt-suc}
+use native.Mathlib.Nat.{pow-succ', pow-le-pow-right, zero-lt-suc, mul-le-mul-left}
 use native.Mathlib.Omega.{arith}
-use lib.IntN.{ℤ, pos}
+use lib.IntN.{ℤ}
 use Rattle.definitions.specs.Limits.{base}
 use Rattle.definitions.specs.Coefficients.{coefficients}
 use Rattle.definitions.specs.Subdivision.{Cell, whole}
-use Rattle.definitions.specs.Address.{Address}
 use Rattle.definitions.specs.Verdict.{Verdict, valid, invalid, undecided}
 use Rattle.definitions.specs.Record.{verdictWords, recordOf}
 use Rattle.verdict.specs.Search.{Found, nothing, coefficient, point, Pass, pass, visit}
 use Rattle.verdict.specs.Opened.{most}
 use Rattle.verdict.specs.Passes.{Before, before-first, pass-point, pass-nothing, pass-last, pass-on}
-use Rattle.subdivision.specs.Children.{Control}
-use Rattle.address.specs.declared.Address.{Address as HeldAddress}
-use Rattle.address.specs.Meaning.{addressOf}
-use Rattle.search.specs.Meaning.{cellOf, size, Room}
-
-abbrev pub wholeAddress : Address
-wholeAddress = record { level = 0; a = 0; b = 0; c = 0 }
+use Rattle.subdivision.specs.Control.{Control}
+use Rattle.search.specs.Meaning.{passWords, Held, size, Grid, Room}
+use Rattle.search.specs.Visit.{visit-count}
 
 abbrev pub wholeOf : List ℤ → Cell
 wholeOf g = record { a = 0; b = 0; c = 0; control = g }
@@ -93,14 +88,32 @@ pub count-room : (m c : ℕ) → m < base .depth → c ≤ most m → c + 8 ^ (m
 count-room m c h k = let l : m + 1 ≤ 3 = omega arith in let p : 8 ^ (m + 1) ≤ 8 ^ 3 = pow-le-pow-right (zero-lt-suc 7) l in omega (arith, most-small m h)
 
 -- ---- the whole element has room for every level
-pub whole-room : (q : HeldAddress) (g : List ℤ) (left : ℕ) → addressOf q ≡ wholeAddress → Control (size 0) g → left ≤ base .depth → Room q g left
-whole-room q g left e k h =
-    let level : q .level ≡ 0 = ap (λ (r : Address). r .level) e in
-    let width : 2 ^ q .level ≡ 1 = ap (λ (n : ℕ). 2 ^ n) level in
-    let a : q .a ≡ 0 = ap (λ (r : Address). r .a) e in
-    let b : q .b ≡ 0 = ap (λ (r : Address). r .b) e in
-    let c : q .c ≡ 0 = ap (λ (r : Address). r .c) e in
-    record { cell = record { level = omega arith; a = omega arith; b = omega arith; c = omega arith }; depth = omega arith; control = subst (λ (n : ℕ). Control (size n) g) (sym level) k }
+module _ (g : List ℤ) (k : Control (size 0) g) (level : ℕ) where
+  pub whole-room : level ≤ base .depth → Room g 0 0 0 level
+  whole-room h = let grid : Grid 0 level = mul-le-mul-left 1 (pow-le-pow-right (zero-lt-suc 1) h) in
+      record { small = record { bound = size 0; control = k; small = mul-le-mul-left (size 0) (pow-le-pow-right (zero-lt-suc 63) h) }; a-grid = grid; b-grid = grid; c-grid = grid }
 
-pub whole-cell : (q : HeldAddress) (g : List ℤ) → addressOf q ≡ wholeAddress → cellOf q g ≡ wholeOf g
-whole-cell q g e = λ i. record { a = e i .a; b = e i .b; c = e i .c; control = g }
+  pub whole-held : (ws : List ℤ) (m : ℕ) → ws ≡ passWords (fresh m) → m + 8 ^ level < 2 ^ 63 → Held (8 ^ level) ws
+  whole-held ws m e h = record { pass = fresh m; is = e; room = h }
+
+-- ---- the words between passes
+pub record Made (g : List ℤ) (m : ℕ) (ws : List ℤ) : Type 0 where
+  pub pass : Pass
+  pub is : ws ≡ passWords pass
+  pub few : pass .count ≤ most m
+  pub at : (xs : List ℤ) → g ≡ coefficients xs → At xs m pass
+
+module _ (g : List ℤ) where
+  pub made-first : (ws : List ℤ) → ws ≡ passWords (visit 0 (wholeOf g) (fresh 0)) → Made g 0 ws
+  made-first ws e = record { pass = visit 0 (wholeOf g) (fresh 0); is = e; few = visit-count 0 (wholeOf g) (fresh 0); at = λ xs h. at-first xs g h (visit 0 (wholeOf g) (fresh 0)) refl }
+
+  pub made-next : (m : ℕ) (ws vs : List ℤ) (made : Made g m ws) → isBlocked (made .pass .found) ≡ true → vs ≡ passWords (visit (m + 1) (wholeOf g) (fresh (made .pass .count))) → Made g (m + 1) vs
+  made-next m ws vs made b e = let r = visit (m + 1) (wholeOf g) (fresh (made .pass .count)) in record {
+    pass = r;
+    is = e;
+    few = most-room m (made .pass .count) (r .count) (made .few) (visit-count (m + 1) (wholeOf g) (fresh (made .pass .count)));
+    at = λ xs h. at-next xs g h m (made .pass) r (made .at xs h) b refl;
+  }
+
+pub made-room : (g : List ℤ) (m : ℕ) (ws : List ℤ) → m < base .depth → Made g m ws → Held (8 ^ (m + 1)) ws
+made-room g m ws h made = record { pass = made .pass; is = made .is; room = omega (arith, count-room m (made .pass .count) h (made .few)) }

@@ -1,6 +1,7 @@
 pub mod Meaning
 pub mod Lowest
+pub mod Children
 pub mod Visit
-pub mod Bounds
 pub mod Levels
+pub mod Bounds
 pub mod Points

@@ -11,12 +11,10 @@ use lib.Signed.{leZ}
 use Rattle.foundation.specs.Lists.{tabulate}
 use Rattle.definitions.specs.Jacobian.{side}
 use Rattle.definitions.specs.Subdivision.{Cell}
-use Rattle.definitions.specs.Verdict.{Finding, firstLow, coefficientsOf}
+use Rattle.definitions.specs.Verdict.{Finding, firstLow, found, coefficientsOf, blocked}
 use Rattle.verdict.specs.Findings.{orElse, orElse-none}
 use Rattle.verdict.specs.Search.{Found, nothing, coefficient, point, Pass, finds, pass, ended, openAfter, openCell, cornerValues}
-use Rattle.address.specs.declared.Address.{Address as HeldAddress}
-use Rattle.address.specs.Meaning.{addressOf}
-use Rattle.search.specs.Meaning.{lowFrom, lowest, withCoefficient, findingHeld, cellOf, cornerOf}
+use Rattle.search.specs.Meaning.{lowFrom, lowest}
 
 module _ (g : List ℤ) where
   abbrev step : ℕ → ℕ → Bool → ℕ
@@ -70,6 +68,12 @@ first-named g f h k (suc n) = ap (λ (z : ℤ). elim (leZ z (pos 0)) as (λ _. O
     go true r = refl
     go false r = r
 
+-- a low coefficient after what was found before: an earlier one stays
+abbrev pub withCoefficient : Found → Finding → Found
+withCoefficient nothing f = coefficient f
+withCoefficient (coefficient g) f = coefficient g
+withCoefficient (point g) f = point g
+
 -- ---- of a cell
 module _ (s : Cell) where
   abbrev pub atCorner : ℕ → Finding
@@ -90,10 +94,18 @@ module _ (s : Cell) where
   unfolding lowest
   eight = prefix (s .control) 8 0 27 (omega arith)
 
-  -- nothing low; a low corner; a low coefficient that is no corner
-  pub open-nothing : lowest (s .control) ≡ 0 → (n : ℕ) (k : Option Finding) → openAfter n k s ≡ pass (suc n) none k
-  open-nothing e n k = ap₂ (λ p q. pass (suc n) p (orElse k q)) (first-corner ∙ ap (named atCorner) (eight .none e)) (first-coefficient ∙ ap (named atCell) e) ∙ ap (pass (suc n) none) (orElse-none k)
+  -- a cell is blocked where there is a lowest
+  pub clear : lowest (s .control) ≡ 0 → blocked s ≡ false
+  clear e = ap found (first-coefficient ∙ ap (named atCell) e)
 
+  is-found : (o : Option Finding) (j : ℕ) → o ≡ named atCell j → (j ≡ 0 → ⊥) → found o ≡ true
+  is-found o zero e h = absurd (h refl)
+  is-found o (suc j) e h = ap found e
+
+  pub low : (lowest (s .control) ≡ 0 → ⊥) → blocked s ≡ true
+  low h = is-found (firstLow (coefficientsOf s)) (lowest (s .control)) first-coefficient h
+
+  -- a low corner; a low coefficient that is no corner
   pub open-corner : (j : ℕ) → lowest (s .control) ≡ suc j → j < 8 → (n : ℕ) (k : Option Finding) → openAfter n k s ≡ record { count = suc n; found = point (atCorner j) }
   open-corner j e h n k = ap (λ p. pass (suc n) p (orElse k (firstLow (coefficientsOf s)))) (first-corner ∙ ap (named atCorner) (eight .inside (omega arith) (omega arith) ∙ e))
 
@@ -112,11 +124,6 @@ module _ (s : Cell) where
   open-after n (coefficient f) e = refl
   open-after n (point f) e = absurd (true≢false e)
 
-  stays : (o : Found) → ended o ≡ false → finds none (earlier o) ≡ o
-  stays nothing e = refl
-  stays (coefficient f) e = refl
-  stays (point f) e = absurd (true≢false e)
-
   joins : (o : Found) → ended o ≡ false → (f : Finding) → finds none (orElse (earlier o) (some f)) ≡ withCoefficient o f
   joins nothing e f = refl
   joins (coefficient g) e f = refl
@@ -126,19 +133,8 @@ module _ (s : Cell) where
   more n = omega arith
 
   module _ (n : ℕ) (o : Found) (e : ended o ≡ false) where
-    pub opened-nothing : lowest (s .control) ≡ 0 → record { count = n + 1; found = o } ≡ openCell s (record { count = n; found = o })
-    opened-nothing h = sym (open-after n o e ∙ open-nothing h n (earlier o) ∙ (λ i. record { count = more n i; found = stays o e i }))
-
     pub opened-corner : (j : ℕ) → lowest (s .control) ≡ suc j → j < 8 → record { count = n + 1; found = point (atCorner j) } ≡ openCell s (record { count = n; found = o })
     opened-corner j h l = sym (open-after n o e ∙ open-corner j h l n (earlier o) ∙ (λ i. record { count = more n i; found = point (atCorner j) }))
 
     pub opened-coefficient : (j : ℕ) → lowest (s .control) ≡ suc j → 8 ≤ j → record { count = n + 1; found = withCoefficient o (atCell j) } ≡ openCell s (record { count = n; found = o })
     opened-coefficient j h l = sym (open-after n o e ∙ open-coefficient j h l n (earlier o) ∙ (λ i. record { count = more n i; found = joins o e (atCell j) i }))
-
--- the findings that the code makes
-module _ (q : HeldAddress) (g : List ℤ) (n j : ℕ) (e : n ≡ suc j) (v : ℤ) (h : v ≡ getD g j (pos 0)) where
-  pub corner-finding : (p : HeldAddress) → addressOf p ≡ cornerOf (addressOf q) j → findingHeld p n v ≡ atCorner (cellOf q g) j
-  corner-finding p r = λ i. record { number = e i; a = r i .a; b = r i .b; c = r i .c; value = h i }
-
-  pub cell-finding : findingHeld q n v ≡ atCell (cellOf q g) j
-  cell-finding = λ i. record { number = e i; a = q .a; b = q .b; c = q .c; value = h i }

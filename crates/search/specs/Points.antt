@@ -10,7 +10,7 @@ use Rattle.definitions.specs.Coefficients.{coefficients}
 use Rattle.definitions.specs.Subdivision.{whole}
 use Rattle.expansion.specs.Expansion.{length-coefficients}
 use Rattle.expansion.specs.Size.{whole-size}
-use Rattle.subdivision.specs.Children.{Control}
+use Rattle.subdivision.specs.Control.{Control}
 use Rattle.search.specs.Meaning.{size}
 
 pub record OfPoints (g : List ℤ) : Type 0 where

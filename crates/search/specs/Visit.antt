@@ -1,28 +1,19 @@
 -- The search's recursion as the code follows it: by what the pass has found, by the levels left, child after child.
 use mathlib.Core.Path.{_≡_, refl, sym, _∙_, ap, ap₂, subst}
 use mathlib.Core.Bool.{Bool, true, false, true≢false}
-use mathlib.Core.List.{List, [], _∷_, _++_}
-use mathlib.Core.Option.{Option, none, some}
-use Prim.Native.Nat.{ℕ, zero, suc, _+_, _*_, _-_, _^_, _<_, _≤_}
-use native.Mathlib.Nat.{pow-succ', pow-le-pow-right, zero-lt-suc, suc-mul, mul-le-mul-right}
+use mathlib.Core.List.{List, [], _∷_}
+use Prim.Native.Nat.{ℕ, zero, suc, _+_, _*_, _-_, _^_, _<_, _≤_, zero-le}
+use native.Mathlib.Nat.{pow-succ', pow-le-pow-right, zero-lt-suc, suc-mul, add-mul, mul-le-mul-left, mul-le-mul-right}
 use native.Mathlib.Omega.{arith}
-use lib.ListN.{getD, length, take, drop}
-use lib.IntN.{ℤ, pos}
-use Rattle.definitions.specs.Limits.{base}
-use Rattle.definitions.specs.Jacobian.{side}
-use Rattle.definitions.specs.Subdivision.{Cell, child, children, descend}
-use Rattle.definitions.specs.Verdict.{Finding, firstLow, found, coefficientsOf, blocked, openedBelow}
-use Rattle.verdict.specs.Findings.{orElse}
-use Rattle.verdict.specs.Search.{Found, nothing, coefficient, point, Pass, pass, ended, openAfter, openCell, openAll, visit}
-use Rattle.verdict.specs.Points.{side-small}
-use Rattle.expansion.specs.Cells.{pow-twice}
-use Rattle.subdivision.specs.Children.{Control, childControl, eight}
-use Rattle.subdivision.specs.ChildLaws.{child-fits, within-more, eight-part}
-use Rattle.definitions.specs.Address.{Address}
-use Rattle.address.specs.declared.Address.{Address as HeldAddress}
-use Rattle.address.specs.Meaning.{addressOf}
-use Rattle.search.specs.Meaning.{cellOf, childOf, lowest, size, Cell as IsCell, Room}
-use Rattle.search.specs.Lowest.{first-coefficient, named, atCell}
+use lib.ListN.{length}
+use lib.IntN.{ℤ}
+use Rattle.definitions.specs.Subdivision.{Cell, child, children}
+use Rattle.definitions.specs.Verdict.{blocked}
+use Rattle.verdict.specs.Search.{Found, nothing, coefficient, point, Pass, ended, openCell, openAll, visit}
+use Rattle.verdict.specs.Clear.{Clear, childControl, child-control, more, openedClear, visit-clear}
+use Rattle.search.specs.Meaning.{lowest, passWords, Held}
+use Rattle.search.specs.Lowest.{low}
+use Rattle.search.specs.Children.{lowest-clear}
 
 -- ---- the branches
 module _ (s : Cell) (r : Pass) where
@@ -36,33 +27,20 @@ module _ (s : Cell) (r : Pass) where
       go m (point f) e = refl
   visit-ended (suc n) e = sym (ap (λ (b : Bool). elim b as (λ _. Pass) [ true ↦ r | false ↦ elim (blocked s) as (λ _. Pass) [ true ↦ openAll (visit n) (children s) r | false ↦ r ] ]) e)
 
-  pub visit-last : (n : ℕ) → n ≡ 0 → openCell s r ≡ visit n s r
-  unfolding visit
-  visit-last n e = ap (λ (m : ℕ). visit m s r) (sym e)
+  module _ (going : ended (r .found) ≡ false) where
+    pub visit-none : (n : ℕ) → length (s .control) ≡ 27 → lowest (s .control) ≡ 0 → more (openedClear 1 n) r ≡ visit n s r
+    visit-none n h e = sym (visit-clear n s r (lowest-clear (s .control) h e) going)
 
-  -- the first k children, where n levels are left
-  abbrev pub over : ℕ → ℕ → Pass
-  over n zero = r
-  over n (suc k) = visit (n - 1) (child s k) (over n k)
-
-  is-blocked : (o : Option Finding) (j : ℕ) → o ≡ named (atCell s) j → (j ≡ 0 → ⊥) → found o ≡ true
-  is-blocked o zero e h = absurd (h refl)
-  is-blocked o (suc j) e h = ap found e
-
-  module _ (n : ℕ) (going : ended (r .found) ≡ false) (some-left : n ≡ 0 → ⊥) where
-    opens : (n : ℕ) → (n ≡ 0 → ⊥) → (b : Bool) → blocked s ≡ b → visit n s r ≡ elim b as (λ _. Pass) [ true ↦ openAll (visit (n - 1)) (children s) r | false ↦ r ]
+    pub visit-last : (n : ℕ) → n ≡ 0 → openCell s r ≡ visit n s r
     unfolding visit
-    opens zero h b e = absurd (h refl)
-    opens (suc n) h b e = let p : n ≡ suc n - 1 = omega arith in
+    visit-last n e = ap (λ (m : ℕ). visit m s r) (sym e)
+
+    visit-all : (n : ℕ) → (n ≡ 0 → ⊥) → blocked s ≡ true → visit n s r ≡ openAll (visit (n - 1)) (children s) r
+    unfolding visit
+    visit-all zero some e = absurd (some refl)
+    visit-all (suc n) some e = let p : n ≡ suc n - 1 = omega arith in
         ap₂ (λ (x y : Bool). elim x as (λ _. Pass) [ true ↦ r | false ↦ elim y as (λ _. Pass) [ true ↦ openAll (visit n) (children s) r | false ↦ r ] ]) going e
-        ∙ ap (λ (m : ℕ). elim b as (λ _. Pass) [ true ↦ openAll (visit m) (children s) r | false ↦ r ]) p
-
-    pub visit-clear : lowest (s .control) ≡ 0 → r ≡ visit n s r
-    visit-clear e = sym (opens n some-left false (ap found (first-coefficient s ∙ ap (named (atCell s)) e)))
-
-    pub visit-over : (lowest (s .control) ≡ 0 → ⊥) → over n 8 ≡ visit n s r
-    unfolding children
-    visit-over e = sym (opens n some-left true (is-blocked (firstLow (coefficientsOf s)) (lowest (s .control)) (first-coefficient s) e))
+        ∙ ap (λ (m : ℕ). openAll (visit m) (children s) r) p
 
 -- ---- how many it opens
 open-count : (s : Cell) (r : Pass) → openCell s r .count ≤ r .count + 1
@@ -88,62 +66,69 @@ visit-count (suc n) s r = go (ended (r .found)) (blocked s) (visit-count n)
     go false true h = omega (arith, all-count (visit n) (8 ^ n) h (children s) r, pow-succ' 8 n)
     go false false h = omega arith
 
--- ---- a child's room
-pow-more : (b m : ℕ) → b ^ (m + 1) ≡ b * b ^ m
-pow-more b m = let p : m + 1 ≡ suc m = omega arith in ap (λ (n : ℕ). b ^ n) p ∙ pow-succ' b m
+-- ---- child after child, m levels below each
+sum-clear : (n m k : ℕ) → k + openedClear n m + openedClear 1 m ≡ k + openedClear (suc n) m
+sum-clear n zero k = omega arith
+sum-clear n (suc m) k = omega arith
 
-size-next : (m : ℕ) → 64 * size m ≡ size (m + 1)
-size-next m = omega (arith, pow-more 64 m)
+pub later-clear : (n m k : ℕ) → (m ≡ 0 → ⊥) → k ≡ k + openedClear n m
+later-clear n zero k h = absurd (h refl)
+later-clear n (suc m) k h = omega arith
 
-pub child-room : (q p : HeldAddress) (g : List ℤ) (left k : ℕ) → Room q g left → (left ≡ 0 → ⊥) → addressOf p ≡ childOf (addressOf q) k → Room p (childControl g k) (left - 1)
-child-room q p g left k room h e =
-    let level : p .level ≡ q .level + 1 = ap (λ (r : Address). r .level) e in
-    let width : 2 ^ p .level ≡ 2 * 2 ^ q .level = ap (λ (n : ℕ). 2 ^ n) level ∙ pow-more 2 (q .level) in
-    let a : p .a ≡ 2 * q .a + side 0 k = ap (λ (r : Address). r .a) e in
-    let b : p .b ≡ 2 * q .b + side 1 k = ap (λ (r : Address). r .b) e in
-    let c : p .c ≡ 2 * q .c + side 2 k = ap (λ (r : Address). r .c) e in
-    let d = room .depth in
-    record {
-      cell = record {
-        level = omega arith;
-        a = omega (arith, room .cell .a, side-small 0 k);
-        b = omega (arith, room .cell .b, side-small 1 k);
-        c = omega (arith, room .cell .c, side-small 2 k);
-      };
-      depth = omega arith;
-      control = subst (λ (n : ℕ). Control n (childControl g k)) (size-next (q .level) ∙ ap size (sym level)) (child-fits (size (q .level)) g k (room .control .within));
-    }
+none-clear : (m k : ℕ) → k ≡ k + openedClear 0 m
+none-clear zero k = omega arith
+none-clear (suc m) k = omega arith
 
--- and the coefficients of a cell that is cut are small enough
-pub cut-room : (q : HeldAddress) (g : List ℤ) (left : ℕ) → Room q g left → (left ≡ 0 → ⊥) → Control (2 ^ 57 - 1) g
-cut-room q g left room h =
-    let d = room .depth in
-    let l : q .level ≤ 2 = omega arith in
-    let p : 64 ^ q .level ≤ 64 ^ 2 = pow-le-pow-right (zero-lt-suc 63) l in
-    let small : size (q .level) ≤ 2 ^ 57 - 1 = omega arith in
-    record { sized = room .control .sized; within = within-more (size (q .level)) (2 ^ 57 - 1) g small (room .control .within) }
+module _ (s : Cell) (r : Pass) (m : ℕ) where
+  abbrev pub over : ℕ → Pass
+  over zero = r
+  over (suc k) = visit m (child s k) (over k)
 
--- ---- the parts that a cut makes
-pub part-is : (xs g : List ℤ) (k : ℕ) → xs ≡ eight g → k < 8 → take (27 * k + 27 - 27 * k) (drop (27 * k) xs) ≡ childControl g k
-part-is xs g k e h = let p : 27 * k + 27 - 27 * k ≡ 27 = omega arith in ap₂ (λ (n : ℕ) (l : List ℤ). take n (drop (27 * k) l)) p e ∙ eight-part g k h
+  pub over-next : (k : ℕ) → over (k + 1) ≡ visit m (child s k) (over k)
+  over-next k = let p : k + 1 ≡ suc k = omega arith in ap over p
 
-pub child-cell : (q p : HeldAddress) (g xs : List ℤ) (k : ℕ) → addressOf p ≡ childOf (addressOf q) k → xs ≡ childControl g k → cellOf p xs ≡ child (cellOf q g) k
-unfolding child
-child-cell q p g xs k e h = λ i. record { a = e i .a; b = e i .b; c = e i .c; control = h i }
+  -- children without a low coefficient are passed over
+  pub over-clear : (k n : ℕ) → ended (over k .found) ≡ false → ((j : ℕ) → k ≤ j → j < k + n → Clear (childControl (s .control) j)) → over (k + n) ≡ more (openedClear n m) (over k)
+  over-clear k zero going h = let p : k + 0 ≡ k = omega arith in ap over p ∙ (λ i. record { count = none-clear m (over k .count) i; found = over k .found })
+  over-clear k (suc n) going h = let p : k + suc n ≡ suc (k + n) = omega arith in
+      let ih = over-clear k n going (λ j l u. h j l (omega arith)) in
+      ap over p ∙ ap (visit m (child s (k + n))) ih
+      ∙ visit-clear m (child s (k + n)) (more (openedClear n m) (over k)) (subst Clear (child-control s (k + n)) (h (k + n) (omega arith) (omega arith))) going
+      ∙ (λ i. record { count = sum-clear n m (over k .count) i; found = over k .found })
 
--- ---- how many are left to open
-pub pow-left : (n : ℕ) → (n ≡ 0 → ⊥) → 8 ^ n ≡ 8 * 8 ^ (n - 1)
+  -- after a low corner nothing changes
+  over-more : (k n : ℕ) → ended (over k .found) ≡ true → over k ≡ over (k + n)
+  over-more k zero e = let p : k ≡ k + 0 = omega arith in ap over p
+  over-more k (suc n) e = let p : suc (k + n) ≡ k + suc n = omega arith in let ih = over-more k n e in
+      ih ∙ visit-ended (child s (k + n)) (over (k + n)) m (sym (ap (λ (q : Pass). ended (q .found)) ih) ∙ e) ∙ ap over p
+
+  pub over-ended : (k : ℕ) → k ≤ 8 → ended (over k .found) ≡ true → over k ≡ over 8
+  over-ended k l e = let p : k + (8 - k) ≡ 8 = omega arith in over-more k (8 - k) e ∙ ap over p
+
+  over-count : (k : ℕ) → over k .count ≤ r .count + k * 8 ^ m
+  over-count zero = omega arith
+  over-count (suc k) = omega (arith, over-count k, visit-count m (child s k) (over k), suc-mul k (8 ^ m))
+
+-- all eight, where the cell is cut
+pub visit-over : (s : Cell) (r : Pass) (n : ℕ) → ended (r .found) ≡ false → (n ≡ 0 → ⊥) → (lowest (s .control) ≡ 0 → ⊥) → over s r (n - 1) 8 ≡ visit n s r
+unfolding children
+visit-over s r n going some h = sym (visit-all s r going n some (low s h))
+
+-- ---- room for one cell more, and for the cells of n children more
+pub one-held : (left : ℕ) (ws : List ℤ) → Held (8 ^ left) ws → Held 1 ws
+one-held left ws held = let p : 8 ^ 0 ≤ 8 ^ left = pow-le-pow-right (zero-lt-suc 7) zero-le in record { pass = held .pass; is = held .is; room = omega (arith, held .room, p) }
+
+pow-left : (n : ℕ) → (n ≡ 0 → ⊥) → 8 ^ n ≡ 8 * 8 ^ (n - 1)
 pow-left zero h = absurd (h refl)
 pow-left (suc n) h = let p : n ≡ suc n - 1 = omega arith in pow-succ' 8 n ∙ ap (λ (m : ℕ). 8 * 8 ^ m) p
 
-pub times-next : (k x : ℕ) → (k + 1) * x ≡ k * x + x
-times-next k x = let p : k + 1 ≡ suc k = omega arith in ap (λ (n : ℕ). n * x) p ∙ suc-mul k x
+module _ (s : Cell) (left : ℕ) (some : left ≡ 0 → ⊥) (ws : List ℤ) (held : Held (8 ^ left) ws) (k n : ℕ) (l : k + n ≤ 8) (vs : List ℤ) (e : vs ≡ passWords (over s (held .pass) (left - 1) k)) where
+  run-held : Held (n * 8 ^ (left - 1)) vs
+  run-held = let x = 8 ^ (left - 1) in record { pass = over s (held .pass) (left - 1) k; is = e; room = omega (arith, held .room, pow-left left some, over-count s (held .pass) (left - 1) k, add-mul k n x, mul-le-mul-right x l) }
 
-pub times-most : (k x : ℕ) → k < 8 → k * x + x ≤ 8 * x
-times-most k x h = omega (arith, mul-le-mul-right x h, suc-mul k x)
+  pub skip-held : Held n vs
+  skip-held = let x = 8 ^ (left - 1) in let p : 8 ^ 0 ≤ x = pow-le-pow-right (zero-lt-suc 7) zero-le in let q : n * 1 ≤ n * x = mul-le-mul-left n p in
+      record { pass = run-held .pass; is = run-held .is; room = omega (arith, run-held .room, q) }
 
-pub over-next : (s : Cell) (r : Pass) (n k : ℕ) → over s r n (k + 1) ≡ visit (n - 1) (child s k) (over s r n k)
-over-next s r n k = let p : k + 1 ≡ suc k = omega arith in ap (over s r n) p
-
-pub over-last : (s : Cell) (r : Pass) (n k : ℕ) → k ≡ 8 → over s r n k ≡ over s r n 8
-over-last s r n k e = ap (over s r n) e
+pub next-held : (s : Cell) (left : ℕ) → (left ≡ 0 → ⊥) → (ws : List ℤ) (held : Held (8 ^ left) ws) (k : ℕ) → k < 8 → (vs : List ℤ) → vs ≡ passWords (over s (held .pass) (left - 1) k) → Held (8 ^ (left - 1)) vs
+next-held s left some ws held k l vs e = let p : k + 1 ≤ 8 = omega arith in let h = run-held s left some ws held k 1 p vs e in record { pass = h .pass; is = h .is; room = omega (arith, h .room) }

@@ -1,50 +1,28 @@
 // Inner: for the inspector's own crates. The recursive search of an element's cells, and its bounds.
 ghost use mathlib.Core.Path.{_≡_};
 ghost use mathlib.Core.Bool.{false};
-ghost use Prim.Native.Nat.{ℕ, _+_, _*_, _^_, _<_, _≤_};
-ghost use lib.ListN.{length, take, getD};
-ghost use Rattle.verdict.specs.Search.{ended as hasEnded, openCell, visit as visited};
-ghost use Rattle.definitions.specs.Limits.{base};
-ghost use Rattle.address.specs.Meaning.{addressOf};
-ghost use Rattle.search.specs.Meaning.{cellOf, findingOf, findingHeld, foundOf, withCoefficient, passOf, childOf, cornerOf, lowest as lowestOf, size, Cell, Room};
-ghost use Rattle.foundation.specs.Least.{lesser as lesserOf, leastFrom};
-ghost use Rattle.verdict.specs.Extremes.{extremes as extremesBelow};
 ghost use mathlib.Core.List.{List};
+ghost use Prim.Native.Nat.{ℕ, _+_, _-_, _%_, _^_, _<_, _≤_};
+ghost use lib.ListN.{length, take, getD};
 ghost use lib.IntN.{ℤ, pos, natAbs};
+ghost use Rattle.foundation.specs.Least.{lesser as lesserOf, leastFrom};
+ghost use Rattle.definitions.specs.Limits.{base};
+ghost use Rattle.definitions.specs.Jacobian.{side};
 ghost use Rattle.definitions.specs.Coefficients.{coefficients};
 ghost use Rattle.definitions.specs.Record.{words, verdictWords, recordOf};
-ghost use Rattle.subdivision.specs.Children.{Control};
+ghost use Rattle.definitions.specs.Subdivision.{halve, Cell};
+ghost use Rattle.verdict.specs.Search.{Pass, ended as hasEnded, openCell, visit as visited};
+ghost use Rattle.verdict.specs.Extremes.{extremes as extremesBelow};
+ghost use Rattle.verdict.specs.Clear.{halfOf, more, openedClear};
+ghost use Rattle.subdivision.specs.Control.{Control};
+ghost use Rattle.search.specs.Meaning.{cellOf, lowest as lowestOf, passWords, Held, Small, Room};
+ghost use Rattle.search.specs.Children.{Ready, Run};
+ghost use Rattle.search.specs.Levels.{wholeOf, fresh, isBlocked, outcome};
 ghost use Rattle.search.specs.Bounds.{extremesOf, withControl, boundsAt};
 ghost use Rattle.search.specs.Points.{OfPoints};
-ghost use Rattle.search.specs.Levels.{wholeAddress, wholeOf, fresh, isBlocked, outcome};
-use address::Address;
-use address::Moved;
-
-// A corner or a coefficient that is not above 0: its number from 1, the grid numbers of the point or of the cell, its value.
-pub struct Finding {
-    pub number: u32,
-    pub a: u32,
-    pub b: u32,
-    pub c: u32,
-    pub value: i64,
-}
-
-// What a pass has found: nothing low, the first low coefficient, or a low corner, with which it ends.
-pub enum Found {
-    Nothing,
-    Coefficient(Finding),
-    Point(Finding),
-}
-
-// The cells opened so far, and what was found.
-pub struct Pass {
-    pub count: u32,
-    pub found: Found,
-}
 
 // The lowest number of a coefficient that is not above 0, from 1; 0 where there is none.
-fn lowest(g: &[i64]) -> usize
-    requires { ⌜ length (now g) ≡ 27 ⌝ }
+fn lowest(g: &[i64; 27]) -> usize
     ensures { λ r. ⌜ (r ≡ lowestOf (now (g .entry))) × (r ≤ 27) ⌝ }
 {
     for k in 0..27 {
@@ -56,212 +34,198 @@ fn lowest(g: &[i64]) -> usize
     0
 }
 
+// A pass is lent as eight words, those of a record: what was found (0 nothing, 1 a low corner, 2 a low coefficient), 0, grid numbers,
+// number and value of the finding, and how many cells were opened.
+
 // Whether a low corner was found.
-fn ended(found: Found) -> bool
-    ensures { λ r. ⌜ r ≡ hasEnded (foundOf found) ⌝ }
+fn ended(pass: &[i64; 8]) -> bool
+    ensures { λ r. ⌜ ((p : Pass) → now (pass .entry) ≡ passWords p → r ≡ hasEnded (p .found)) ⌝ }
 {
-    match found {
-        Found::Nothing => false,
-        Found::Coefficient(f) => false,
-        Found::Point(f) => true,
-    }
+    let kind = pass[0];
+    kind == 1
 }
 
-// The address of child k, 0 to 7, of a cell that is not of the finest level.
-fn child_at(q: Address, k: usize) -> Address
-    requires { ⌜ Cell q × (q .level < base .depth) × (k < 8) ⌝ }
-    ensures { λ r. ⌜ addressOf r ≡ childOf (addressOf q) k ⌝ }
+// So many cells more were opened.
+fn add_opened(n: u32, pass: &mut [i64; 8])
+    requires { ⌜ Held n (now pass) ⌝ }
+    ensures { λ _. ⌜ ((p : Pass) → now (pass .entry) ≡ passWords p → now (pass .exit) ≡ passWords (record { count = p .count + n; found = p .found })) ⌝ }
 {
-    let to = q.child(k as u32 + 1);
-    match to {
-        Moved::To(p) => p,
-        Moved::Not(p) => p,
-    }
+    let count = pass[7];
+    pass[7] = count + n as i64;
 }
 
-// The point at corner k, 0 to 7, of a cell.
-fn corner_at(q: Address, k: usize) -> Address
-    requires { ⌜ Cell q × (k < 8) ⌝ }
-    ensures { λ r. ⌜ addressOf r ≡ cornerOf (addressOf q) k ⌝ }
+// A finding in place of what was found before.
+fn note(kind: u32, a: u32, b: u32, c: u32, number: u32, value: i64, pass: &mut [i64; 8])
+    ensures { λ _. ⌜ ((p : Pass) → now (pass .entry) ≡ passWords p → now (pass .exit) ≡ words kind 0 a b c number value (p .count)) ⌝ }
 {
-    let to = q.corner(k as u32 + 1);
-    match to {
-        Moved::To(p) => p,
-        Moved::Not(p) => p,
-    }
+    pass[0] = kind as i64;
+    pass[2] = a as i64;
+    pass[3] = b as i64;
+    pass[4] = c as i64;
+    pass[5] = number as i64;
+    pass[6] = value;
 }
 
-// The finding of number n at the grid numbers of an address.
-fn finding_at(q: Address, n: usize, value: i64) -> Finding
-    requires { ⌜ n ≤ 27 ⌝ }
-    ensures { λ r. ⌜ findingOf r ≡ findingHeld q n value ⌝ }
+// A cell of the last level with a low coefficient, the lowest that of number n: one cell more, and a low corner, or a low coefficient
+// where nothing low was found before.
+fn open_low(g: &[i64; 27], a: u32, b: u32, c: u32, n: usize, pass: &mut [i64; 8])
+    requires { ⌜ Room (now g) a b c 0 × Held 1 (now pass) ⌝ }
+    requires { ⌜ (n ≡ lowestOf (now g)) × (0 < n) × (n ≤ 27) ⌝ }
+    ensures { λ _. ⌜ ((p : Pass) → now (pass .entry) ≡ passWords p → hasEnded (p .found) ≡ false → now (pass .exit) ≡ passWords (openCell (cellOf a b c (now (g .entry))) p)) ⌝ }
 {
-    Finding {
-        number: n as u32,
-        a: q.a,
-        b: q.b,
-        c: q.c,
-        value: value,
-    }
-}
-
-// What was found, with a low coefficient more: an earlier one stays.
-fn with_coefficient(found: Found, f: Finding) -> Found
-    ensures { λ r. ⌜ foundOf r ≡ withCoefficient (foundOf found) (findingOf f) ⌝ }
-{
-    match found {
-        Found::Nothing => Found::Coefficient(f),
-        Found::Coefficient(g) => found,
-        Found::Point(g) => found,
-    }
-}
-
-// One cell more, after what was found before.
-fn open_cell(g: &[i64], q: Address, r: Pass) -> Pass
-    requires { ⌜ Room q (now g) 0 × (r .count < 4294967295) × (hasEnded (foundOf (r .found)) ≡ false) ⌝ }
-    ensures { λ s. ⌜ passOf s ≡ openCell (cellOf q (now (g .entry))) (passOf r) ⌝ }
-{
-    let n = lowest(g);
-    let found = r.found;
-    let count = r.count + 1;
-    if n == 0 {
-        return Pass {
-            count: count,
-            found: found,
-        };
-    }
+    add_opened(1, pass);
+    let k = n as u32 - 1;
     let value = g[n - 1];
     if n <= 8 {
-        let p = corner_at(q, n - 1);
-        return Pass {
-            count: count,
-            found: Found::Point(finding_at(p, n, value)),
-        };
+        note(
+            1,
+            a + address::side(0, k),
+            b + address::side(1, k),
+            c + address::side(2, k),
+            k + 1,
+            value,
+            pass,
+        );
+        return;
     }
-    Pass {
-        count: count,
-        found: with_coefficient(found, finding_at(q, n, value)),
+    let kind = pass[0];
+    if kind == 0 {
+        note(2, a, b, c, k + 1, value, pass);
     }
 }
 
-// The cells that are due `left` levels below this one, in path order, after what was found before.
-pub fn visit(g: &[i64], q: Address, left: u32, r: Pass) -> Pass
-    requires { ⌜ Room q (now g) left × (r .count + 8 ^ left ≤ 4294967295) ⌝ }
-    ensures { λ s. ⌜ (passOf s ≡ visited left (cellOf q (now (g .entry))) (passOf r)) × (s .count ≤ r .count + 8 ^ left) ⌝ }
+// So many cells without a low coefficient, with `left` levels below them: they are opened where they are of the last level.
+fn skip(n: u32, left: u32, pass: &mut [i64; 8])
+    requires { ⌜ Held n (now pass) ⌝ }
+    ensures { λ _. ⌜ ((p : Pass) → now (pass .entry) ≡ passWords p → now (pass .exit) ≡ passWords (more (openedClear n left) p)) ⌝ }
 {
-    let found = r.found;
-    if ended(found) {
-        return r;
+    if left == 0 {
+        add_opened(n, pass);
+    }
+}
+
+// The half in ζ that child k, 0 to 7, lies in: made for the first of four, and kept.
+fn half_at(g: &[i64; 27], k: u32, half: &mut [i64; 27])
+    requires { ⌜ Control (2 ^ 61 - 1) (now g) × (k < 8) × (length (now half) ≡ 27) ⌝ }
+    requires { ⌜ ((k % 4 ≡ 0 → ⊥) → now half ≡ halfOf (now g) k) ⌝ }
+    ensures { λ _. ⌜ now (half .exit) ≡ halfOf (now (g .entry)) k ⌝ }
+{
+    if k % 4 == 0 {
+        subdivision::halve(2, address::side(2, k), g, half);
+    }
+}
+
+// Of that half the half in η that child k lies in: made for the first of two, and kept.
+fn quarter_at(half: &[i64; 27], k: u32, quarter: &mut [i64; 27])
+    requires { ⌜ Control (2 ^ 61 - 1) (now half) × (k < 8) × (length (now quarter) ≡ 27) ⌝ }
+    requires { ⌜ ((k % 2 ≡ 0 → ⊥) → now quarter ≡ halve 1 (side 1 k) (now half)) ⌝ }
+    ensures { λ _. ⌜ now (quarter .exit) ≡ halve 1 (side 1 k) (now (half .entry)) ⌝ }
+{
+    if k % 2 == 0 {
+        subdivision::halve(1, address::side(1, k), half, quarter);
+    }
+}
+
+// How many children from k on are known to have no low coefficient: 4 where their half has none, 2 where their quarter has none; else
+// 0, and the quarter is there to make child k from.
+fn clear(g: &[i64; 27], k: u32, half: &mut [i64; 27], quarter: &mut [i64; 27]) -> u32
+    requires { ⌜ Control (2 ^ 57 - 1) (now g) × (k < 8) × Ready (now g) k (now half) (now quarter) ⌝ }
+    ensures { λ n. ⌜ Run (now (g .entry)) k n (now (half .exit)) (now (quarter .exit)) ⌝ }
+{
+    half_at(g, k, half);
+    if k % 4 == 0 {
+        if lowest(half) == 0 {
+            return 4;
+        }
+    }
+    quarter_at(half, k, quarter);
+    if k % 2 == 0 {
+        if lowest(quarter) == 0 {
+            return 2;
+        }
+    }
+    0
+}
+
+// The due cells `left` levels below this one, in path order, after what was found before: a cell with a low coefficient is cut into
+// its eight children, by halves, and children that are known to have none are passed over.
+pub fn visit(g: &[i64; 27], a: u32, b: u32, c: u32, left: u32, pass: &mut [i64; 8])
+    requires { ⌜ Room (now g) a b c left × Held (8 ^ left) (now pass) ⌝ }
+    ensures { λ _. ⌜ ((p : Pass) → now (pass .entry) ≡ passWords p → now (pass .exit) ≡ passWords (visited left (cellOf a b c (now (g .entry))) p)) ⌝ }
+{
+    if ended(pass) {
+        return;
+    }
+    let n = lowest(g);
+    if n == 0 {
+        skip(1, left, pass);
+        return;
     }
     if left == 0 {
-        return open_cell(g, q, r);
+        open_low(g, a, b, c, n, pass);
+        return;
     }
-    if lowest(g) == 0 {
-        return r;
-    }
-    let mut parts = [0i64; 216];
-    subdivision::cut(g, &mut parts);
-    let mut s = r;
-    for k in 0..8 {
-        let p = child_at(q, k);
-        let from = 27 * k;
-        s = visit(&parts[from..from + 27], p, left - 1, s);
-    }
-    s
-}
-
-// The whole element: the cell of level 0.
-fn whole() -> Address
-    ensures { λ r. ⌜ addressOf r ≡ wholeAddress ⌝ }
-{
-    Address {
-        level: 0,
-        a: 0,
-        b: 0,
-        c: 0,
+    let mut half = [0i64; 27];
+    let mut quarter = [0i64; 27];
+    let mut child = [0i64; 27];
+    let mut k: u32 = 0;
+    while k < 8 {
+        if ended(pass) {
+            return;
+        }
+        let clear = clear(g, k, &mut half, &mut quarter);
+        if clear == 0 {
+            let x = address::side(0, k);
+            let y = address::side(1, k);
+            let z = address::side(2, k);
+            subdivision::halve(0, x, &quarter, &mut child);
+            visit(&child, 2 * a + x, 2 * b + y, 2 * c + z, left - 1, pass);
+            k += 1;
+        } else {
+            skip(clear, left - 1, pass);
+            k += clear;
+        }
     }
 }
 
-// The pass of a level over the whole element, with `count` cells opened before.
-fn pass_at(g: &[i64], level: u32, count: u32) -> Pass
-    requires { ⌜ Control (size 0) (now g) × (level ≤ base .depth) × (count + 8 ^ level ≤ 4294967295) ⌝ }
-    ensures { λ r. ⌜ (passOf r ≡ visited level (wholeOf (now (g .entry))) (fresh count)) × (r .count ≤ count + 8 ^ level) ⌝ }
+// The pass of a level over the whole element, after a pass of which the count of cells stays.
+fn pass_at(g: &[i64; 27], level: u32, pass: &mut [i64; 8])
+    requires { ⌜ OfPoints (now g) × (level ≤ base .depth) × Held (8 ^ level) (now pass) ⌝ }
+    ensures { λ _. ⌜ ((p : Pass) → now (pass .entry) ≡ passWords p → now (pass .exit) ≡ passWords (visited level (wholeOf (now (g .entry))) (fresh (p .count)))) ⌝ }
 {
-    visit(
-        g,
-        whole(),
-        level,
-        Pass {
-            count: count,
-            found: Found::Nothing,
-        },
-    )
+    note(0, 0, 0, 0, 0, 0, pass);
+    visit(g, 0, 0, 0, level, pass);
 }
 
 // Whether a pass found a low coefficient and no low corner.
-fn blocked(r: Pass) -> bool
-    ensures { λ b. ⌜ b ≡ isBlocked (foundOf (r .found)) ⌝ }
+fn blocked(pass: &[i64; 8]) -> bool
+    ensures { λ b. ⌜ ((p : Pass) → now (pass .entry) ≡ passWords p → b ≡ isBlocked (p .found)) ⌝ }
 {
-    let found = r.found;
-    match found {
-        Found::Nothing => false,
-        Found::Coefficient(f) => true,
-        Found::Point(f) => false,
-    }
-}
-
-// The eight words of a record.
-fn record_words(kind: u32, level: u32, f: Finding, count: u32) -> [i64; 8]
-    ensures { λ r. ⌜ r ≡ words kind level (f .a) (f .b) (f .c) (f .number) (f .value) count ⌝ }
-{
-    let value = f.value;
-    [
-        kind as i64,
-        level as i64,
-        f.a as i64,
-        f.b as i64,
-        f.c as i64,
-        f.number as i64,
-        value,
-        count as i64,
-    ]
+    let kind = pass[0];
+    kind == 2
 }
 
 // What the last pass, that of a level, comes to.
-fn settle(level: u32, r: Pass) -> [i64; 8]
-    ensures { λ w. ⌜ w ≡ verdictWords (outcome level (foundOf (r .found))) (r .count) ⌝ }
+fn settle(level: u32, pass: &mut [i64; 8])
+    ensures { λ _. ⌜ ((p : Pass) → now (pass .entry) ≡ passWords p → now (pass .exit) ≡ verdictWords (outcome level (p .found)) (p .count)) ⌝ }
 {
-    let found = r.found;
-    match found {
-        Found::Nothing => record_words(
-            0,
-            level,
-            Finding {
-                number: 0,
-                a: 0,
-                b: 0,
-                c: 0,
-                value: 0,
-            },
-            r.count,
-        ),
-        Found::Coefficient(f) => record_words(2, level, f, r.count),
-        Found::Point(f) => record_words(1, level, f, r.count),
-    }
+    pass[1] = level as i64;
 }
 
 // The record of the eight points with these coefficients: a pass of level 0, 1, .. while only low coefficients are found.
-pub fn record(g: &[i64], depth: u32) -> [i64; 8]
+pub fn record(g: &[i64; 27], depth: u32) -> [i64; 8]
     requires { ⌜ OfPoints (now g) × (depth ≤ base .depth) ⌝ }
     ensures { λ w. ⌜ ((xs : List ℤ) → now (g .entry) ≡ coefficients xs → w ≡ recordOf xs depth) ⌝ }
 {
     let mut m: u32 = 0;
-    let mut r = pass_at(g, 0, 0);
-    while (m < depth) & blocked(r) {
+    let mut r = [0i64; 8];
+    pass_at(g, 0, &mut r);
+    while (m < depth) & blocked(&r) {
         m += 1;
-        r = pass_at(g, m, r.count);
+        pass_at(g, m, &mut r);
     }
-    settle(m, r)
+    settle(m, &mut r);
+    r
 }
 
 // The least coefficient and the least corner of the cells seen so far.
@@ -280,7 +244,7 @@ fn lesser(x: i64, y: i64) -> i64
 }
 
 // The least of v and the first n coefficients.
-fn least(g: &[i64], n: usize, v: i64) -> i64
+fn least(g: &[i64; 27], n: usize, v: i64) -> i64
     requires { ⌜ (length (now g) ≡ 27) × (n ≤ 27) ⌝ }
     ensures { λ r. ⌜ r ≡ leastFrom v (take n (now (g .entry))) ⌝ }
 {
@@ -293,7 +257,7 @@ fn least(g: &[i64], n: usize, v: i64) -> i64
 }
 
 // One cell more.
-fn with_cell(g: &[i64], r: Extremes) -> Extremes
+fn with_cell(g: &[i64; 27], r: Extremes) -> Extremes
     requires { ⌜ length (now g) ≡ 27 ⌝ }
     ensures { λ s. ⌜ extremesOf s ≡ withControl (now (g .entry)) (extremesOf r) ⌝ }
 {
@@ -306,32 +270,33 @@ fn with_cell(g: &[i64], r: Extremes) -> Extremes
 }
 
 // The cells `left` levels below this one, after those seen before.
-pub fn survey(g: &[i64], q: Address, left: u32, r: Extremes) -> Extremes
-    requires { ⌜ Room q (now g) left ⌝ }
-    ensures { λ s. ⌜ extremesOf s ≡ extremesBelow left (cellOf q (now (g .entry))) (extremesOf r) ⌝ }
+pub fn survey(g: &[i64; 27], left: u32, r: Extremes) -> Extremes
+    requires { ⌜ Small (now g) left ⌝ }
+    ensures { λ e. ⌜ ((s : Cell) → s .control ≡ now (g .entry) → extremesOf e ≡ extremesBelow left s (extremesOf r)) ⌝ }
 {
     if left == 0 {
         return with_cell(g, r);
     }
-    let mut parts = [0i64; 216];
-    subdivision::cut(g, &mut parts);
-    let mut s = r;
+    let mut half = [0i64; 27];
+    let mut quarter = [0i64; 27];
+    let mut child = [0i64; 27];
+    let mut e = r;
     for k in 0..8 {
-        let p = child_at(q, k);
-        let from = 27 * k;
-        s = survey(&parts[from..from + 27], p, left - 1, s);
+        half_at(g, k, &mut half);
+        quarter_at(&half, k, &mut quarter);
+        subdivision::halve(0, address::side(0, k), &quarter, &mut child);
+        e = survey(&child, left - 1, e);
     }
-    s
+    e
 }
 
 // Both bounds of the eight points with these coefficients, from the greatest number, which no coefficient passes.
-pub fn bounds(g: &[i64], depth: u32) -> Extremes
+pub fn bounds(g: &[i64; 27], depth: u32) -> Extremes
     requires { ⌜ OfPoints (now g) × (depth ≤ base .depth) ⌝ }
     ensures { λ r. ⌜ ((xs : List ℤ) → now (g .entry) ≡ coefficients xs → ((i : ℕ) → natAbs (getD xs i (pos 0)) ≤ base .range) → extremesOf r ≡ boundsAt xs depth) ⌝ }
 {
     survey(
         g,
-        whole(),
         depth,
         Extremes {
             low: 9223372036854775807,

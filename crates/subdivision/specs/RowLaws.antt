@@ -1,25 +1,23 @@
 -- Where the coefficients stand in the rows; a coefficient of a half by its row; and a half put together row by row.
 use mathlib.Core.Path.{_≡_, refl, sym, _∙_, ap, subst}
 use mathlib.Core.List.{List, [], _∷_, map}
-use Prim.Native.Nat.{ℕ, zero, suc, _+_, _*_, _/_, _%_, _<_, _≤_}
+use Prim.Native.Nat.{ℕ, zero, suc, _+_, _*_, _-_, _/_, _%_, _^_, _<_}
 use native.Mathlib.Decide.{ℕ-discrete}
 use native.Mathlib.Omega.{arith}
-use lib.Dec.{T, eqb, eqb→eq}
+use lib.Dec.{T, eqb}
 use lib.ListN.{getD, set, length, length-set}
 use lib.Seq.{ext-getD, getD-set-same, getD-set-other}
 use lib.IntN.{ℤ, pos}
-use Rattle.foundation.specs.Lists.{allBelow, below}
+use Rattle.foundation.specs.Lists.{allBelow, equal-below}
 use Rattle.foundation.specs.Polynomial.{integers}
 use Rattle.foundation.specs.Words.{args}
 use Rattle.definitions.specs.Coefficients.{numbering, numbered, place, at}
 use Rattle.definitions.specs.Subdivision.{lower, upper, cutRow, cut, halve}
 use Rattle.expansion.specs.Cut.{length-halve}
-use Rattle.subdivision.specs.Rows.{inRow, inLine, taken, takenRow, putRow, rowAt, afterRows, halfStep}
+use Rattle.subdivision.specs.Control.{Control}
+use Rattle.subdivision.specs.Rows.{inRow, inLine, taken, takenRow, putRow, rowAt, Agrees, Holds, Row}
 
--- ---- two functions of numbers compared by computing: below n; and at the 27 coefficients of every direction
-pub equal-below : (f g : ℕ → ℕ) (n : ℕ) → T (allBelow n (λ k. eqb (f k) (g k))) → (k : ℕ) → k < n → f k ≡ g k
-equal-below f g n t k h = eqb→eq (f k) (g k) (below (λ k. eqb (f k) (g k)) n t k h)
-
+-- ---- two functions of numbers compared by computing, at the 27 coefficients of every direction
 everywhere : (f g : ℕ → ℕ → ℕ) → T (allBelow 81 (λ k. eqb (f (k / 27) (k % 27)) (g (k / 27) (k % 27)))) → (d x : ℕ) → d < 3 → x < 27 → f d x ≡ g d x
 everywhere f g t d x ld lx = let p : (27 * d + x) / 27 ≡ d = omega arith in let q : (27 * d + x) % 27 ≡ x = omega arith in
     (λ j. f (sym p j) (sym q j)) ∙ equal-below (λ k. f (k / 27) (k % 27)) (λ k. g (k / 27) (k % 27)) 81 t (27 * d + x) (omega arith) ∙ (λ j. g (p j) (q j))
@@ -42,7 +40,7 @@ abbrev stand : ℕ → ℕ → ℕ
 stand d n = 9 * placeIn (first d) n + 3 * placeIn (second d) n + placeIn d n
 
 module _ (d x : ℕ) (ld : d < 3) (lx : x < 27) where
-  pub line-small : inLine d x < 27
+  line-small : inLine d x < 27
   line-small = omega (arith, everywhere (λ d x. inLine d x % 27) inLine tt d x ld lx)
 
   stand-small : stand d x < 27
@@ -62,6 +60,14 @@ module _ (d x : ℕ) (ld : d < 3) (lx : x < 27) where
 
   line-stand : inLine d (stand d x) ≡ x
   line-stand = everywhere (λ d x. inLine d (stand d x)) (λ d x. x) tt d x ld lx
+
+-- the numbers of a row are those of coefficients
+pub row-small : {d j x y z : ℕ} → Row d j x y z → (x < 27) × (y < 27) × (z < 27)
+row-small {d} {j} r = (
+  omega (arith, line-small d (3 * j) (r .direction) (omega arith)),
+  omega (arith, line-small d (3 * j + 1) (r .direction) (omega arith)),
+  omega (arith, line-small d (3 * j + 2) (r .direction) (omega arith)),
+)
 
 -- ---- a coefficient of a half
 getD-image : {A B : Type 0} (f : A → B) (l : List A) (n : ℕ) (a : A) (b : B) → n < length l → getD (map f l) n b ≡ f (getD l n a)
@@ -83,10 +89,10 @@ row-cong zero f g i p q r = λ j. lower integers (p j) (q j) (r j) i
 row-cong (suc h) f g i p q r = λ j. upper integers (p j) (q j) (r j) i
 
 -- row j of direction d, in c
-abbrev pub rowOf : ℕ → List ℤ → ℕ → List ℤ
+abbrev rowOf : ℕ → List ℤ → ℕ → List ℤ
 rowOf d c j = getD c (inLine d (3 * j)) (pos 0) ∷ getD c (inLine d (3 * j + 1)) (pos 0) ∷ getD c (inLine d (3 * j + 2)) (pos 0) ∷ []
 
-pub entry-is : (d h : ℕ) (c : List ℤ) (j t x : ℕ) → d < 3 → j < 9 → t < 3 → x ≡ 3 * j + t
+entry-is : (d h : ℕ) (c : List ℤ) (j t x : ℕ) → d < 3 → j < 9 → t < 3 → x ≡ 3 * j + t
     → cutRow integers h (args (rowOf d c j)) t ≡ getD (halve d h c) (inLine d x) (pos 0)
 entry-is d h c j t x ld lj lt e =
     row-cong h (args (rowOf d c j)) (λ s. getD c (inRow d (j / 3) (j % 3) s) (pos 0)) t (same (3 * j) 0 (omega arith) (omega arith)) (same (3 * j + 1) 1 (omega arith) refl) (same (3 * j + 2) 2 (omega arith) refl)
@@ -108,10 +114,7 @@ entry-is d h c j t x ld lj lt e =
     r : placeIn d (inLine d x) ≡ t
     r = own-place d x ld lx ∙ omega arith
 
--- ---- a half put together: xs agrees with it at the first n places of the rows
-abbrev pub Agrees : ℕ → List ℤ → ℕ → List ℤ → Type 0
-Agrees d half n xs = (x : ℕ) → x < n → getD xs (inLine d x) (pos 0) ≡ getD half (inLine d x) (pos 0)
-
+-- ---- a half put together
 module _ (d : ℕ) (half : List ℤ) (ld : d < 3) where
   agrees-more : (n m : ℕ) (xs : List ℤ) → n < 27 → m ≡ n + 1 → length xs ≡ 27 → Agrees d half n xs → Agrees d half m (taken d half n xs)
   agrees-more n m xs ln next s h x l = elim (ℕ-discrete x n) [
@@ -122,7 +125,7 @@ module _ (d : ℕ) (half : List ℤ) (ld : d < 3) where
         getD-set-other xs (inLine d n) (inLine d x) (getD half (inLine d n) (pos 0)) (pos 0) (λ p. e (sym (stand-line d x ld lx) ∙ ap (stand d) p ∙ stand-line d n ld ln)) ∙ h x (omega arith)
   ]
 
-  pub agrees-row : (j : ℕ) (xs : List ℤ) {ys : List ℤ} → ys ≡ takenRow d half j xs → j < 9 → length xs ≡ 27 → Agrees d half (3 * j) xs → (length ys ≡ 27) × Agrees d half (3 * (j + 1)) ys
+  agrees-row : (j : ℕ) (xs : List ℤ) {ys : List ℤ} → ys ≡ takenRow d half j xs → j < 9 → length xs ≡ 27 → Agrees d half (3 * j) xs → (length ys ≡ 27) × Agrees d half (3 * (j + 1)) ys
   agrees-row j xs e l s h = let one = taken d half (3 * j) xs in let two = taken d half (3 * j + 1) one in (
     ap length e ∙ simp length-set s,
     subst (Agrees d half (3 * (j + 1))) (sym e)
@@ -131,26 +134,26 @@ module _ (d : ℕ) (half : List ℤ) (ld : d < 3) where
         (agrees-more (3 * j) (3 * j + 1) xs (omega arith) refl s h))),
   )
 
-  pub agrees-all : (xs : List ℤ) → length xs ≡ 27 → length half ≡ 27 → Agrees d half 27 xs → xs ≡ half
+  agrees-all : (xs : List ℤ) → length xs ≡ 27 → length half ≡ 27 → Agrees d half 27 xs → xs ≡ half
   agrees-all xs s z h = ext-getD (pos 0) xs half (s ∙ sym z) (λ n l. let k : n < 27 = omega arith in
       let e : inLine d (stand d n) ≡ n = line-stand d n ld k in
       subst (λ (m : ℕ). getD xs m (pos 0) ≡ getD half m (pos 0)) e (h (stand d n) (stand-small d n ld k)))
 
 -- ---- a half from its nine rows
-module _ (d h : ℕ) (c : List ℤ) (ld : d < 3) where
-  row-taken : (j : ℕ) (xs : List ℤ) → j < 9 → halfStep d h c j xs ≡ takenRow d (halve d h c) j xs
-  unfolding putRow
-  row-taken j xs lj = let e : 3 * j + 0 ≡ 3 * j = omega arith in
-      (λ i. putRow h (rowAt c (inLine d (e i)) (inLine d (3 * j + 1)) (inLine d (3 * j + 2))) (inLine d (e i)) (inLine d (3 * j + 1)) (inLine d (3 * j + 2)) xs)
-      ∙ (λ i. set (set (set xs (inLine d (3 * j)) (entry-is d h c j 0 (3 * j) ld lj (omega arith) (omega arith) i)) (inLine d (3 * j + 1)) (entry-is d h c j 1 (3 * j + 1) ld lj (omega arith) refl i)) (inLine d (3 * j + 2)) (entry-is d h c j 2 (3 * j + 2) ld lj (omega arith) refl i))
+-- what the code puts is what is taken from the half
+row-taken : (d h j : ℕ) {x y z : ℕ} (c xs : List ℤ) → Row d j x y z → putRow h (rowAt c x y z) x y z xs ≡ takenRow d (halve d h c) j xs
+unfolding putRow
+row-taken d h j c xs r = (λ i. putRow h (rowAt c (r .start i) (r .middle i) (r .end i)) (r .start i) (r .middle i) (r .end i) xs)
+    ∙ (λ i. set (set (set xs (inLine d (3 * j)) (entry-is d h c j 0 (3 * j) (r .direction) (r .number) (omega arith) (omega arith) i)) (inLine d (3 * j + 1)) (entry-is d h c j 1 (3 * j + 1) (r .direction) (r .number) (omega arith) refl i)) (inLine d (3 * j + 2)) (entry-is d h c j 2 (3 * j + 2) (r .direction) (r .number) (omega arith) refl i))
 
-  half-agrees : (xs : List ℤ) → length xs ≡ 27 → (n : ℕ) → n ≤ 9 → (length (afterRows (halfStep d h c) n xs) ≡ 27) × Agrees d (halve d h c) (3 * n) (afterRows (halfStep d h c) n xs)
-  half-agrees xs s zero l = (s, λ x k. absurd (omega arith))
-  half-agrees xs s (suc n) l = let (sized, agrees) = half-agrees xs s n (omega arith) in
-      let ys = afterRows (halfStep d h c) n xs in
-      let e : 3 * (n + 1) ≡ 3 * suc n = omega arith in
-      let (sized', agrees') = agrees-row d (halve d h c) ld n ys (row-taken n ys (omega arith)) (omega arith) sized agrees in
-      (sized', subst (λ (m : ℕ). Agrees d (halve d h c) m (halfStep d h c n ys)) e agrees')
+-- before the first row
+pub none-held : (d h : ℕ) {c xs : List ℤ} → Control (2 ^ 61 - 1) c → length xs ≡ 27 → Holds d h 0 c xs
+none-held d h p s = record { control = p; sized = s; agrees = λ x k. absurd (omega arith) }
 
-  pub half-made : (xs : List ℤ) → length xs ≡ 27 → afterRows (halfStep d h c) 9 xs ≡ halve d h c
-  half-made xs s = let (sized, agrees) = half-agrees xs s 9 (omega arith) in agrees-all d (halve d h c) ld (afterRows (halfStep d h c) 9 xs) sized (length-halve d h c) agrees
+-- one row more
+pub row-held : {d h j x y z : ℕ} {c xs ys : List ℤ} → Row d j x y z → Holds d h j c xs → ys ≡ putRow h (rowAt c x y z) x y z xs → Holds d h (j + 1) c ys
+row-held {d} {h} {j} {c = c} {xs} r p e = let (s, a) = agrees-row d (halve d h c) (r .direction) j xs (e ∙ row-taken d h j c xs r) (r .number) (p .sized) (p .agrees) in record { control = p .control; sized = s; agrees = a }
+
+-- after the last row: the direction d is n
+pub all-held : {d h : ℕ} (n : ℕ) {c xs : List ℤ} → n < 3 → d ≡ n → Holds n h 9 c xs → xs ≡ halve d h c
+all-held {d} {h} n {c} {xs} l e p = agrees-all n (halve n h c) l xs (p .sized) (length-halve n h c) (p .agrees) ∙ ap (λ (m : ℕ). halve m h c) (sym e)

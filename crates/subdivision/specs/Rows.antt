@@ -1,12 +1,14 @@
 -- The rows of coefficients that a cut mixes: in each direction nine, of three coefficients in line. Coefficients are counted from 0, in the numbering.
+use mathlib.Core.Path.{_≡_}
 use mathlib.Core.List.{List, [], _∷_}
-use Prim.Native.Nat.{ℕ, zero, suc, _+_, _*_, _/_, _%_}
-use lib.ListN.{getD, set}
+use Prim.Native.Nat.{ℕ, zero, suc, _+_, _*_, _-_, _/_, _%_, _^_, _<_}
+use lib.ListN.{getD, set, length}
 use lib.IntN.{ℤ, pos}
 use Rattle.foundation.specs.Polynomial.{integers}
 use Rattle.foundation.specs.Words.{args}
 use Rattle.definitions.specs.Coefficients.{numbers}
-use Rattle.definitions.specs.Subdivision.{cutRow}
+use Rattle.definitions.specs.Subdivision.{cutRow, halve}
+use Rattle.subdivision.specs.Control.{Control}
 
 -- the coefficient at t, 0 to 2, of the row in direction d whose places in the other two directions are u and v
 abbrev pub inRow : ℕ → ℕ → ℕ → ℕ → ℕ
@@ -35,18 +37,21 @@ putRow h row x y z xs = set (set (set xs x (cutRow integers h (args row) 0)) y (
 abbrev pub rowAt : List ℤ → ℕ → ℕ → ℕ → List ℤ
 rowAt c x y z = getD c x (pos 0) ∷ getD c y (pos 0) ∷ getD c z (pos 0) ∷ []
 
--- both halves of that row: the lower one into part a of xs, the upper one into part b
-unfoldable pub splitRow : List ℤ → ℕ → ℕ → ℕ → ℕ → ℕ → List ℤ → List ℤ
-splitRow c x y z a b xs = let row = rowAt c x y z in putRow 1 row (27 * b + x) (27 * b + y) (27 * b + z) (putRow 0 row (27 * a + x) (27 * a + y) (27 * a + z) xs)
+-- ---- a half put together, row by row
+-- xs agrees with half at the first n places of the rows
+abbrev pub Agrees : ℕ → List ℤ → ℕ → List ℤ → Type 0
+Agrees d half n xs = (x : ℕ) → x < n → getD xs (inLine d x) (pos 0) ≡ getD half (inLine d x) (pos 0)
 
--- xs after steps 0, .., n - 1
-abbrev pub afterRows : (ℕ → List ℤ → List ℤ) → ℕ → List ℤ → List ℤ
-afterRows step zero xs = xs
-afterRows step (suc n) xs = step n (afterRows step n xs)
+-- xs, as long as a half, holds the first j rows of that of c on side h; and c fits a cut
+pub record Holds (d h j : ℕ) (c xs : List ℤ) : Type 0 where
+  pub control : Control (2 ^ 61 - 1) c
+  pub sized : length xs ≡ 27
+  pub agrees : Agrees d (halve d h c) (3 * j) xs
 
--- row j of direction d: one half put in, or both
-abbrev pub halfStep : ℕ → ℕ → List ℤ → ℕ → List ℤ → List ℤ
-halfStep d h c j = let x : ℕ → ℕ = λ t. inLine d (3 * j + t) in putRow h (rowAt c (x 0) (x 1) (x 2)) (x 0) (x 1) (x 2)
-
-abbrev pub splitStep : ℕ → List ℤ → ℕ → ℕ → ℕ → List ℤ → List ℤ
-splitStep d c a b j = let x : ℕ → ℕ = λ t. inLine d (3 * j + t) in splitRow c (x 0) (x 1) (x 2) a b
+-- x, y, z are row j of direction d
+pub record Row (d j x y z : ℕ) : Type 0 where
+  pub direction : d < 3
+  pub number : j < 9
+  pub start : x ≡ inLine d (3 * j)
+  pub middle : y ≡ inLine d (3 * j + 1)
+  pub end : z ≡ inLine d (3 * j + 2)

@@ -13,3 +13,5 @@ pub mod Prune
 pub mod Search
 pub mod Passes
 pub mod Extremes
+pub mod Commute
+pub mod Clear

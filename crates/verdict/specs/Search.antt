@@ -129,7 +129,7 @@ open-all (s ∷ ss) n k = ap (openAll openCell ss) (open-none n k s) ∙ go (fir
     go none h = h (orElse k (firstLow (coefficientsOf s))) ∙ (λ i. pass (one-more (upTo lowCorner ss) i) (firstOf cornerValues ss) (orElse-assoc k (firstLow (coefficientsOf s)) (firstOf coefficientsOf ss) i))
 
 -- ---- the corners by their coefficients are the corners
-positive-values : (s : Cell) → PositiveCell s → All AboveZero (cornerValues s)
+pub positive-values : (s : Cell) → PositiveCell s → All AboveZero (cornerValues s)
 unfolding cornerValues
 positive-values s h = all-tabulate AboveZero (λ k. record { number = suc k; a = s .a + side 0 k; b = s .b + side 1 k; c = s .c + side 2 k; value = getD (s .control) k (pos 0) }) 0 8 (λ k _ l. above-getD (pos 1) (s .control) h k (omega arith))
 

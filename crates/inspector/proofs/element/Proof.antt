@@ -22,19 +22,19 @@ enum-told : tie.Need-enum-told
 enum-told c = search needs
 
 -- nothing is at fault where the element is whole
-no-fault : (c : tie.After-enum-told) → faultOf base (now (c .before .before .before .before .args .coordinates)) (now (c .before .before .before .before .args .ix)) ≡ none
-no-fault c = sym (c .before .before .fault .ensures) ∙ ap elementOf (c .enum-told .given .1)
+whole : (c : tie.After-enum-told) → elementOf (c .before .before .fault .result) ≡ none
+whole c = ap elementOf (c .enum-told .given .1)
 
-gather-requires : tie.Need-gather-requires
-gather-requires c κs = (c .before .before .before .before .pre .0, whole-element base _ _ (no-fault c) .indices)
+no-fault : (c : tie.After-enum-told) → faultOf base (now (c .before .before .before .before .before .args .coordinates)) (now (c .before .before .before .before .before .args .ix)) ≡ none
+no-fault c = sym (c .before .before .fault .ensures .0) ∙ whole c
 
 points-record-requires : tie.Need-points-record-requires
 points-record-requires c κs =
-    let e = c .before .before in
-    let s = e .before .before .before .before in
+    let e = c .before in
+    let s = e .before .before .before .before .before in
     let coordinates = now (s .args .coordinates) in
     let ix = now (s .args .ix) in (
-      subst (InRange (base .range)) (sym (c .before .gather .ensures)) (record { small = read-within base (pointsOf coordinates ix) (whole-element base coordinates ix (no-fault e) .points) (length-points coordinates ix) }),
+      subst (InRange (base .range)) (sym (e .before .before .fault .ensures .1 (whole e))) (record { small = read-within base (pointsOf coordinates ix) (whole-element base coordinates ix (no-fault e) .points) (length-points coordinates ix) }),
       s .pre .1,
     )
 
@@ -52,23 +52,23 @@ fault-words-requires-2 c κs = search needs
 
 returns : tie.Need-returns
 returns c =
-    let e = c .before .before .before in
-    let s = e .before .before .before .before in
-    c .points-record .ensures ∙ ap (λ (xs : List ℤ). recordOf xs (s .args .depth)) (c .before .before .gather .ensures) ∙ sym (element-points base (now (s .args .coordinates)) (now (s .args .ix)) (s .args .depth) (no-fault e))
+    let e = c .before .before in
+    let s = e .before .before .before .before .before in
+    c .points-record .ensures ∙ ap (λ (xs : List ℤ). recordOf xs (s .args .depth)) (e .before .before .fault .ensures .1 (whole e)) ∙ sym (element-points base (now (s .args .coordinates)) (now (s .args .ix)) (s .args .depth) (no-fault e))
 
 returns-2 : tie.Need-returns-2
 returns-2 c =
     let f = c .before .before in
-    let s = f .before .before .before .before in
+    let s = f .before .before .before .before .before in
     c .fault-words .ensures
-    ∙ sym (element-fault base (now (s .args .coordinates)) (now (s .args .ix)) (s .args .depth) _ (sym (f .before .before .fault .ensures) ∙ ap elementOf (f .fault2 .given .1)))
+    ∙ sym (element-fault base (now (s .args .coordinates)) (now (s .args .ix)) (s .args .depth) _ (sym (f .before .before .fault .ensures .0) ∙ ap elementOf (f .fault2 .given .1)))
 
 returns-3 : tie.Need-returns-3
 returns-3 c =
     let f = c .before .before in
-    let s = f .before .before .before .before in
+    let s = f .before .before .before .before .before in
     c .fault-words2 .ensures
-    ∙ sym (element-fault base (now (s .args .coordinates)) (now (s .args .ix)) (s .args .depth) _ (sym (f .before .before .fault .ensures) ∙ ap elementOf (f .fault3 .given .1)))
+    ∙ sym (element-fault base (now (s .args .coordinates)) (now (s .args .ix)) (s .args .depth) _ (sym (f .before .before .fault .ensures .0) ∙ ap elementOf (f .fault3 .given .1)))
 
 pub element-spec : {M : Type 1} → statement M
 element-spec =
@@ -76,7 +76,6 @@ element-spec =
     (tie.spec
     fault-requires
     enum-told
-    gather-requires
     points-record-requires
     enum-known-fault
     fault-words-requires

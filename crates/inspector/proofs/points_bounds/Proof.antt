@@ -1,17 +1,11 @@
 -- `inspector::points_bounds` meets its contract: the coefficients are as small as a search asks. Assumes nothing.
-use mathlib.Core.Path.{sym, ap, _∙_}
-use lib.ListN.{length}
 use denote.Ref.{now}
-use Rattle.expansion.specs.Expansion.{length-coefficients}
 use borrow.Author.Needs.{needs}
 use Rattle.inspector.proofs.points_bounds.Statement.{statement}
 use Rattle.inspector.proofs.points_bounds.Tie as tie
 
 coefficients-requires : tie.Need-coefficients-requires
 coefficients-requires c κs = search needs
-
-slice-aggregate-bounds : tie.Need-slice-aggregate-bounds
-slice-aggregate-bounds c = sym (ap length (c .before .coefficients .ensures) ∙ length-coefficients (now (c .before .before .before .args .p)))
 
 bounds-requires : tie.Need-bounds-requires
 bounds-requires c κs = let s = c .before .before .before in
@@ -24,4 +18,4 @@ returns c = let s = c .before .before .before .before in
 pub points-bounds-spec : {M : Type 1} → statement M
 points-bounds-spec =
     tie.close
-    (tie.spec coefficients-requires slice-aggregate-bounds bounds-requires returns)
+    (tie.spec coefficients-requires bounds-requires returns)

@@ -1,17 +1,11 @@
 -- `inspector::points_record` meets its contract: the coefficients are as small as a search asks. Assumes nothing.
-use mathlib.Core.Path.{sym, ap, _∙_}
-use lib.ListN.{length}
 use denote.Ref.{now}
-use Rattle.expansion.specs.Expansion.{length-coefficients}
 use borrow.Author.Needs.{needs}
 use Rattle.inspector.proofs.points_record.Statement.{statement}
 use Rattle.inspector.proofs.points_record.Tie as tie
 
 coefficients-requires : tie.Need-coefficients-requires
 coefficients-requires c κs = search needs
-
-slice-aggregate-record : tie.Need-slice-aggregate-record
-slice-aggregate-record c = sym (ap length (c .before .coefficients .ensures) ∙ length-coefficients (now (c .before .before .before .args .p)))
 
 record-requires : tie.Need-record-requires
 record-requires c κs = let s = c .before .before .before in
@@ -22,4 +16,4 @@ returns c = c .«record» .ensures (now (c .before .before .before .before .args
 
 pub points-record-spec : {M : Type 1} → statement M
 points-record-spec =
-    tie.close (tie.spec coefficients-requires slice-aggregate-record record-requires returns)
+    tie.close (tie.spec coefficients-requires record-requires returns)

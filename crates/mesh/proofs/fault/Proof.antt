@@ -1,4 +1,4 @@
--- `fault` meets its contract: what the two searches find, put together. Assumes nothing.
+-- `fault` meets its contract: what the two searches find, put together; the points are gathered between them. Assumes nothing.
 use mathlib.Core.Path.{sym, _∙_, ap}
 use Prim.Native.Nat.{_<_}
 use native.Mathlib.Omega.{arith}
@@ -6,7 +6,7 @@ use borrow.Author.Needs.{needs}
 use Rattle.definitions.specs.Limits.{base}
 use Rattle.definitions.specs.Mesh.{outOfRange}
 use Rattle.mesh.specs.Meaning.{firstOf}
-use Rattle.mesh.specs.Elements.{missing-below, missing-none, fault-missing, fault-outside, fault-none}
+use Rattle.mesh.specs.Elements.{never, missing-below, missing-none, fault-missing, fault-outside, fault-none}
 use Rattle.mesh.proofs.fault.Statement.{statement}
 use Rattle.mesh.proofs.fault.Tie as tie
 
@@ -15,7 +15,7 @@ missing-index-requires : tie.Need-missing-index-requires
 missing-index-requires c κs = search needs
 
 gather-requires : tie.Need-gather-requires
-gather-requires c κs = (search needs, missing-none _ _ (sym (c .before .before .missing-index .ensures) ∙ ap firstOf (c .enum-told .given .1)))
+gather-requires c κs = (search needs, (search needs, missing-none _ _ (sym (c .before .before .before .missing-index .ensures) ∙ ap firstOf (c .before .enum-told .given .1))))
 
 out-of-range-requires : tie.Need-out-of-range-requires
 out-of-range-requires c κs = search needs
@@ -42,7 +42,7 @@ shared-slice-read-index c = omega (arith, found-below (c .before .before))
 returns : tie.Need-returns
 returns c =
     let found = c .before .before in
-    sym (fault-missing base _ _ _ (sym (found .before .before .missing-index .ensures) ∙ ap firstOf (found .missing .given .1)))
+    (sym (fault-missing base _ _ _ (sym (found .before .before .missing-index .ensures) ∙ ap firstOf (found .missing .given .1))), λ e. never e)
 
 enum-told : tie.Need-enum-told
 enum-told c = search needs
@@ -60,11 +60,13 @@ add-axis c = search needs
 returns-2 : tie.Need-returns-2
 returns-2 c =
     let searched = c .before .before .before in
-    let gathered = searched .before .before in
-    sym
-    (fault-outside base _ _ _
-    (sym (gathered .before .before .before .missing-index .ensures) ∙ ap firstOf (gathered .before .enum-told .given .1))
-    (ap (outOfRange base) (sym (gathered .gather .ensures)) ∙ sym (searched .out-of-range .ensures) ∙ ap firstOf (c .before .outside .given .1)))
+    let gathered = searched .before .before in (
+      sym
+          (fault-outside base _ _ _
+          (sym (gathered .before .before .before .before .missing-index .ensures) ∙ ap firstOf (gathered .before .before .enum-told .given .1))
+          (ap (outOfRange base) (sym (gathered .gather .ensures)) ∙ sym (searched .out-of-range .ensures) ∙ ap firstOf (c .before .outside .given .1))),
+      λ e. never e,
+    )
 
 enum-told-2 : tie.Need-enum-told-2
 enum-told-2 c = search needs
@@ -73,11 +75,13 @@ enum-told-2 c = search needs
 returns-3 : tie.Need-returns-3
 returns-3 c =
     let searched = c .before .before in
-    let gathered = searched .before .before in
-    sym
-    (fault-none base _ _
-    (sym (gathered .before .before .before .missing-index .ensures) ∙ ap firstOf (gathered .before .enum-told .given .1))
-    (ap (outOfRange base) (sym (gathered .gather .ensures)) ∙ sym (searched .out-of-range .ensures) ∙ ap firstOf (c .enum-told2 .given .1)))
+    let gathered = searched .before .before in (
+      sym
+          (fault-none base _ _
+          (sym (gathered .before .before .before .before .missing-index .ensures) ∙ ap firstOf (gathered .before .before .enum-told .given .1))
+          (ap (outOfRange base) (sym (gathered .gather .ensures)) ∙ sym (searched .out-of-range .ensures) ∙ ap firstOf (c .enum-told2 .given .1))),
+      λ e. gathered .gather .ensures,
+    )
 
 pub fault-spec : {M : Type 1} → statement M
 fault-spec =

@@ -1,28 +1,32 @@
 -- `search::survey` meets its contract: the branches are those of the recursion; in the loop, the first k children have been seen. Assumes nothing.
-use mathlib.Core.Path.{_≡_, refl, sym, _∙_, subst}
-use mathlib.Core.List.{List}
-use Prim.Native.Nat.{ℕ, _+_, _-_, _≤_, _<_, zero-le}
+use mathlib.Core.Path.{_≡_, refl, sym, _∙_, ap, subst}
+use Prim.Native.Nat.{ℕ, _+_, _-_, _^_, _≤_, _<_, zero-le}
 use native.Mathlib.Omega.{arith}
-use lib.IntN.{ℤ}
+use lib.ListN.{length}
 use denote.Ref.{now}
 use borrow.Author.Needs.{needs}
+use Rattle.definitions.specs.Jacobian.{side}
+use Rattle.definitions.specs.Subdivision.{halve, Cell, child}
+use Rattle.expansion.specs.Cut.{length-halve}
 use Rattle.verdict.specs.Extremes.{extremes}
-use Rattle.search.specs.Meaning.{cellOf, Room}
-use Rattle.search.specs.Visit.{child-room, cut-room, part-is, child-cell}
-use Rattle.search.specs.Bounds.{extremesOf, with-cell, extremesOver, extremes-next, extremes-last}
+use Rattle.subdivision.specs.Control.{Control}
+use Rattle.search.specs.Children.{Ready, ready-first, run-none, child-made, cut-control, cut-half, cut-quarter, cut-small, child-small}
+use Rattle.search.specs.Bounds.{extremesOf, with-last, extremesOver, extremes-next, extremes-last, child-of}
 use borrow.Fn.Kinds.{In}
 use borrow.Fn.PlainCycle.{Measures, is, falls, and}
 use Rattle.search.proofs.survey.Reads as survey
 use Rattle.search.proofs.survey.Kinds as survey-kinds
 use Rattle.search.proofs.+survey.Lts-survey as survey-lts
-use Rattle.search.proofs.child_at.Reads as child-at-reads
+use Rattle.address.proofs.side.Reads as side-reads
+use Rattle.search.proofs.half_at.Reads as half-at-reads
+use Rattle.subdivision.proofs.halve.Reads as halve-reads
+use Rattle.search.proofs.quarter_at.Reads as quarter-at-reads
 use Rattle.search.proofs.with_cell.Reads as with-cell-reads
-use Rattle.subdivision.proofs.cut.Reads as cut-reads
 use Rattle.search.proofs.+survey.{statement}
 use Rattle.search.proofs.+survey.Tie.{close}
 
 abbrev μ-survey : Measures 1 survey-kinds.ps ℕ
-μ-survey κs a = a .1 .1 .0
+μ-survey κs a = a .1 .0
 
 abbrev survey-at : ℕ → In 1 survey-kinds.ps
 survey-at t = and 1 survey-kinds.ps (is 1 survey-kinds.ps μ-survey t) survey.Pre
@@ -30,73 +34,48 @@ survey-at t = and 1 survey-kinds.ps (is 1 survey-kinds.ps μ-survey t) survey.Pr
 abbrev survey-below : ℕ → In 1 survey-kinds.ps
 survey-below t = and 1 survey-kinds.ps (falls 1 survey-kinds.ps _<_ μ-survey t) survey.Pre
 
--- what the calls ask and tell, in the order of the code
-abbrev known : ℕ → survey-lts.Claims
-known t = (with-cell-reads.Asked, with-cell-reads.Learnt, cut-reads.Asked, cut-reads.Learnt, child-at-reads.Asked, child-at-reads.Learnt, survey-below t, survey.Post)
-
 abbrev survey-Inv-loop : survey-lts.InvT-loop
-survey-Inv-loop g q left parts s₀ k₀ s k = (k ≤ 8) × (extremesOf s ≡ extremesOver (cellOf q g) (extremesOf s₀) left k)
+survey-Inv-loop g left half₀ quarter₀ child₀ e₀ k₀ half quarter child e k = (k ≤ 8) × (k < 8 → Ready g k half quarter) × (length child ≡ 27) × ((s : Cell) → s .control ≡ g → extremesOf e ≡ extremesOver s (extremesOf e₀) left k)
 
 abbrev survey-μ-loop : survey-lts.MeasureT-loop
-survey-μ-loop g q left parts s₀ k₀ s k = 8 - k
+survey-μ-loop g left half₀ quarter₀ child₀ e₀ k₀ half quarter child e k = 8 - k
+
+-- what the calls ask and tell, in the order of the code
+abbrev known : ℕ → survey-lts.Claims
+known t = (with-cell-reads.Asked, with-cell-reads.Learnt, half-at-reads.Asked, half-at-reads.Learnt, quarter-at-reads.Asked, quarter-at-reads.Learnt, side-reads.Asked, side-reads.Learnt, halve-reads.Asked, halve-reads.Learnt, survey-below t, survey.Post)
 
 survey-with-cell-requires : (t : ℕ) → survey-lts.Need-with-cell-requires (known t) (survey-at t) survey.Post survey-Inv-loop survey-μ-loop
 survey-with-cell-requires t c κs = c .before .pre .1 .control .sized
 
 survey-returns : (t : ℕ) → survey-lts.Need-returns (known t) (survey-at t) survey.Post survey-Inv-loop survey-μ-loop
-survey-returns t c = let s = c .before .before in
-    c .with-cell .ensures ∙ with-cell (cellOf (s .args .q) (now (s .args .g))) (s .pre .1 .control .sized) (s .args .left) (c .before .if1 .taken) (extremesOf (s .args .r))
-
-survey-slice-aggregate-cut : (t : ℕ) → survey-lts.Need-slice-aggregate-cut (known t) (survey-at t) survey.Post survey-Inv-loop survey-μ-loop
-survey-slice-aggregate-cut t c = refl
-
-survey-cut-requires : (t : ℕ) → survey-lts.Need-cut-requires (known t) (survey-at t) survey.Post survey-Inv-loop survey-μ-loop
-survey-cut-requires t c κs = let s = c .before .before in
-    (cut-room (s .args .q) (now (s .args .g)) (s .args .left) (s .pre .1) (c .before .if1 .left), refl)
+survey-returns t c s h = let start = c .before .before in
+    c .with-cell .ensures ∙ with-last s (ap length h ∙ start .pre .1 .control .sized) (start .args .left) (c .before .if1 .taken) (now (start .args .g)) h (extremesOf (start .args .r))
 
 survey-loop-holds : (t : ℕ) → survey-lts.Need-loop-holds (known t) (survey-at t) survey.Post survey-Inv-loop survey-μ-loop
-survey-loop-holds t c = (zero-le, refl)
+survey-loop-holds t c = (zero-le, λ h. ready-first (now (c .before .args .g)) _ _ refl refl, refl, λ s h. refl)
 
-survey-child-at-requires : (t : ℕ) → survey-lts.Need-child-at-requires (known t) (survey-at t) survey.Post survey-Inv-loop survey-μ-loop
-survey-child-at-requires t c κs = let e = c .before .before .before .before .before in
-    let room = e .before .pre .1 in
-    let some = e .if1 .left in
-    (room .cell, omega (arith, room .depth), c .loop-test .taken)
+survey-half-at-requires : (t : ℕ) → survey-lts.Need-half-at-requires (known t) (survey-at t) survey.Post survey-Inv-loop survey-μ-loop
+survey-half-at-requires t c κs = let start = c .before .before .before .before in let g = now (start .args .g) in let k = c .before .before .loop .k in let w = cut-small g (start .args .left) (start .pre .1) (c .before .before .before .if1 .left) in let here = c .before .loop-test .taken in let ready = c .before .before .loop .inv .1 here in
+    ((cut-control g w k, here, ready .half-sized), ready .half-is)
 
-survey-mul-from : (t : ℕ) → survey-lts.Need-mul-from (known t) (survey-at t) survey.Post survey-Inv-loop survey-μ-loop
-survey-mul-from t c = search needs
+survey-quarter-at-requires : (t : ℕ) → survey-lts.Need-quarter-at-requires (known t) (survey-at t) survey.Post survey-Inv-loop survey-μ-loop
+survey-quarter-at-requires t c κs = let start = c .before .before .before .before .before .before .before in let g = now (start .args .g) in let k = c .before .before .before .before .before .loop .k in let w = cut-small g (start .args .left) (start .pre .1) (c .before .before .before .before .before .before .if1 .left) in let here = c .before .before .before .before .loop-test .taken in let ready = c .before .before .before .before .before .loop .inv .1 here in let half = c .before .before .half-at .ensures in
+    ((subst (Control (2 ^ 61 - 1)) (sym half) (cut-half g w k), here, ready .quarter-sized), λ n. ready .quarter-is n ∙ sym (ap (halve 1 (side 1 k)) half))
 
-survey-add-survey : (t : ℕ) → survey-lts.Need-add-survey (known t) (survey-at t) survey.Post survey-Inv-loop survey-μ-loop
-survey-add-survey t c = search needs
+survey-side-requires : (t : ℕ) → survey-lts.Need-side-requires (known t) (survey-at t) survey.Post survey-Inv-loop survey-μ-loop
+survey-side-requires t c κs = tt
 
-survey-mul-survey : (t : ℕ) → survey-lts.Need-mul-survey (known t) (survey-at t) survey.Post survey-Inv-loop survey-μ-loop
-survey-mul-survey t c = search needs
+survey-halve-requires : (t : ℕ) → survey-lts.Need-halve-requires (known t) (survey-at t) survey.Post survey-Inv-loop survey-μ-loop
+survey-halve-requires t c κs = let start = c .before .before .before .before .before .before .before .before .before .before .before in let g = now (start .args .g) in let k = c .before .before .before .before .before .before .before .before .before .loop .k in let w = cut-small g (start .args .left) (start .pre .1) (c .before .before .before .before .before .before .before .before .before .before .if1 .left) in let here = c .before .before .before .before .before .before .before .before .loop-test .taken in let half = c .before .before .before .before .before .before .half-at .ensures in let quarter = c .before .before .before .quarter-at .ensures ∙ ap (halve 1 (side 1 k)) half in
+    ((subst (Control (2 ^ 61 - 1)) (sym quarter) (cut-quarter g w k), omega arith, omega (arith, c .before .before .side .ensures .1)), c .before .before .before .before .before .before .before .before .before .loop .inv .2)
 
 survey-sub-survey : (t : ℕ) → survey-lts.Need-sub-survey (known t) (survey-at t) survey.Post survey-Inv-loop survey-μ-loop
-survey-sub-survey t c = search needs
-
-survey-part-survey-start : (t : ℕ) → survey-lts.Need-part-survey-start (known t) (survey-at t) survey.Post survey-Inv-loop survey-μ-loop
-survey-part-survey-start t c = search needs
-
-survey-part-survey-end : (t : ℕ) → survey-lts.Need-part-survey-end (known t) (survey-at t) survey.Post survey-Inv-loop survey-μ-loop
-survey-part-survey-end t c = search needs
-
-survey-sub-survey-2 : (t : ℕ) → survey-lts.Need-sub-survey-2 (known t) (survey-at t) survey.Post survey-Inv-loop survey-μ-loop
-survey-sub-survey-2 t c = search needs
+survey-sub-survey t c = omega (arith, c .before .before .before .before .before .before .before .before .before .before .before .before .if1 .left)
 
 survey-survey-requires : (t : ℕ) → survey-lts.Need-survey-requires (known t) (survey-at t) survey.Post survey-Inv-loop survey-μ-loop
-survey-survey-requires t c κs =
-    let a = c .before .before in
-    let l = a .before .before in
-    let e = l .before .before .before .before in
-    let s = e .before in
-    let k = l .loop .k in
-    let h : k < 8 = omega arith in
-    let some = e .if1 .left in (
-      omega (arith, s .pre .0),
-      subst (λ (xs : List ℤ). Room (a .child-at .result) xs (s .args .left - 1)) (sym (part-is _ (now (s .args .g)) k (l .before .before .cut .ensures) h))
-          (child-room (s .args .q) (a .child-at .result) (now (s .args .g)) (s .args .left) k (s .pre .1) some (a .child-at .ensures)),
-    )
+survey-survey-requires t c κs = let start = c .before .before .before .before .before .before .before .before .before .before .before .before .before in let g = now (start .args .g) in let k = c .before .before .before .before .before .before .before .before .before .before .before .loop .k in let w = cut-small g (start .args .left) (start .pre .1) (c .before .before .before .before .before .before .before .before .before .before .before .before .if1 .left) in let here = c .before .before .before .before .before .before .before .before .before .before .loop-test .taken in let half = c .before .before .before .before .before .before .before .before .half-at .ensures in let quarter = c .before .before .before .before .before .quarter-at .ensures ∙ ap (halve 1 (side 1 k)) half in
+    let made = child-made g k (c .before .before .before .before .before .quarter-at .last .1 .1 .0) _ quarter (c .before .halve .ensures ∙ ap (λ (h : ℕ). halve 0 h (c .before .before .before .before .before .quarter-at .last .1 .1 .0)) (c .before .before .before .before .side .ensures .0)) in
+    (omega (arith, start .pre .0, c .before .before .before .before .before .before .before .before .before .before .before .before .if1 .left), child-small g (start .args .left) k _ (start .pre .1) (c .before .before .before .before .before .before .before .before .before .before .before .before .if1 .left) made)
 
 survey-add-k : (t : ℕ) → survey-lts.Need-add-k (known t) (survey-at t) survey.Post survey-Inv-loop survey-μ-loop
 survey-add-k t c = search needs
@@ -105,25 +84,17 @@ survey-loop-less : (t : ℕ) → survey-lts.Need-loop-less (known t) (survey-at 
 survey-loop-less t c = search needs
 
 survey-loop-again : (t : ℕ) → survey-lts.Need-loop-again (known t) (survey-at t) survey.Post survey-Inv-loop survey-μ-loop
-survey-loop-again t c =
-    let a = c .before .before .before in
-    let l = a .before .before in
-    let s = l .before .before .before .before .before in
-    let g = now (s .args .g) in
-    let left = s .args .left in
-    let k = l .loop .k in
-    let h : k < 8 = omega arith in
-    let cell = cellOf (s .args .q) g in
-    let same = child-cell (s .args .q) (a .child-at .result) g _ k (a .child-at .ensures) (part-is _ g k (l .before .before .cut .ensures) h) in
-    (omega arith, c .survey .ensures ∙ (λ i. extremes (left - 1) (same i) (l .loop .inv .1 i)) ∙ sym (extremes-next cell (extremesOf (s .args .r)) left k))
+survey-loop-again t c = let start = c .before .before .before .before .before .before .before .before .before .before .before .before .before .before in let g = now (start .args .g) in let k = c .before .before .before .before .before .before .before .before .before .before .before .before .loop .k in let w = cut-small g (start .args .left) (start .pre .1) (c .before .before .before .before .before .before .before .before .before .before .before .before .before .if1 .left) in let here = c .before .before .before .before .before .before .before .before .before .before .before .loop-test .taken in let half = c .before .before .before .before .before .before .before .before .before .half-at .ensures in let quarter = c .before .before .before .before .before .before .quarter-at .ensures ∙ ap (halve 1 (side 1 k)) half in
+    let made = child-made g k (c .before .before .before .before .before .before .quarter-at .last .1 .1 .0) _ quarter (c .before .before .halve .ensures ∙ ap (λ (h : ℕ). halve 0 h (c .before .before .before .before .before .before .quarter-at .last .1 .1 .0)) (c .before .before .before .before .before .side .ensures .0)) in
+    let left = start .args .left in let r = extremesOf (start .args .r) in (
+      omega arith,
+      λ h. run-none g k here _ _ half quarter .next h,
+      ap length (c .before .before .halve .ensures) ∙ length-halve 0 (c .before .before .before .before .before .side .result) (c .before .before .before .before .before .before .quarter-at .last .1 .1 .0),
+      λ s h. c .survey .ensures (child s k) (child-of s k g _ h made) ∙ ap (extremes (left - 1) (child s k)) (c .before .before .before .before .before .before .before .before .before .before .before .before .loop .inv .3 s h) ∙ sym (extremes-next s r left k),
+    )
 
 survey-returns-2 : (t : ℕ) → survey-lts.Need-returns-2 (known t) (survey-at t) survey.Post survey-Inv-loop survey-μ-loop
-survey-returns-2 t c =
-    let l = c .before in
-    let e = l .before .before .before .before in
-    let s = e .before in
-    let k : l .loop .k ≡ 8 = omega arith in
-    l .loop .inv .1 ∙ extremes-last (cellOf (s .args .q) (now (s .args .g))) (extremesOf (s .args .r)) (s .args .left) (l .loop .k) k (e .if1 .left)
+survey-returns-2 t c s h = let start = c .before .before .before in let l = c .before .loop in let last : l .k ≡ 8 = omega arith in l .inv .3 s h ∙ extremes-last s (extremesOf (start .args .r)) (start .args .left) (l .k) last (c .before .before .if1 .left)
 
 pub +survey-spec : {M : Type 1} → statement M
 +survey-spec = close μ-survey λ t. survey-lts.spec (known t)
@@ -133,17 +104,12 @@ pub +survey-spec : {M : Type 1} → statement M
     survey-μ-loop
     (survey-with-cell-requires t)
     (survey-returns t)
-    (survey-slice-aggregate-cut t)
-    (survey-cut-requires t)
     (survey-loop-holds t)
-    (survey-child-at-requires t)
-    (survey-mul-from t)
-    (survey-add-survey t)
-    (survey-mul-survey t)
+    (survey-half-at-requires t)
+    (survey-quarter-at-requires t)
+    (survey-side-requires t)
+    (survey-halve-requires t)
     (survey-sub-survey t)
-    (survey-part-survey-start t)
-    (survey-part-survey-end t)
-    (survey-sub-survey-2 t)
     (survey-survey-requires t)
     (survey-add-k t)
     (survey-loop-less t)

@@ -25,8 +25,8 @@ loop-holds c = (zero-le, refl)
 mul-x : tie.Need-mul-x Inv-loop μ-loop
 mul-x c = search needs
 
-shared-slice-copy-out-x : tie.Need-shared-slice-copy-out-x Inv-loop μ-loop
-shared-slice-copy-out-x c = omega (arith, c .before .before .pre .0, c .before .before .pre .1)
+element-copy-out-x : tie.Need-element-copy-out-x Inv-loop μ-loop
+element-copy-out-x c = omega (arith, c .before .before .pre .1)
 
 lesser-requires : tie.Need-lesser-requires Inv-loop μ-loop
 lesser-requires c κs = tt
@@ -61,7 +61,7 @@ least-spec =
     μ-loop
     loop-holds
     mul-x
-    shared-slice-copy-out-x
+    element-copy-out-x
     lesser-requires
     add-k
     loop-less

@@ -27,8 +27,8 @@ loop-holds c = (zero-le, refl)
 mul-v : tie.Need-mul-v Inv-loop μ-loop
 mul-v c = search needs
 
-shared-slice-copy-out-v : tie.Need-shared-slice-copy-out-v Inv-loop μ-loop
-shared-slice-copy-out-v c = omega (arith, c .before .before .pre)
+element-copy-out-v : tie.Need-element-copy-out-v Inv-loop μ-loop
+element-copy-out-v c = search needs
 
 add-result : tie.Need-add-result Inv-loop μ-loop
 add-result c = search needs
@@ -70,7 +70,7 @@ lowest-spec =
     μ-loop
     loop-holds
     mul-v
-    shared-slice-copy-out-v
+    element-copy-out-v
     add-result
     returns
     add-k

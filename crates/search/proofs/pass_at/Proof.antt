@@ -1,23 +1,20 @@
--- `search::pass_at` meets its contract: the whole element has room for every level. Assumes nothing.
-use mathlib.Core.Path.{ap, _∙_}
+-- `search::pass_at` meets its contract: what was found before is forgotten, and the whole element is searched. Assumes nothing.
 use denote.Ref.{now}
-use Rattle.definitions.specs.Subdivision.{Cell}
-use Rattle.verdict.specs.Search.{visit as visited}
-use Rattle.search.specs.Levels.{fresh, whole-room, whole-cell}
 use borrow.Author.Needs.{needs}
+use Rattle.search.specs.Points.{points-control}
+use Rattle.search.specs.Levels.{fresh, whole-room, whole-held}
 use Rattle.search.proofs.pass_at.Statement.{statement}
 use Rattle.search.proofs.pass_at.Tie as tie
 
-whole-requires : tie.Need-whole-requires
-whole-requires c κs = search needs
+note-requires : tie.Need-note-requires
+note-requires c κs = search needs
 
 visit-requires : tie.Need-visit-requires
-visit-requires c κs = let s = c .before in
-    (whole-room (c .whole .result) (now (s .args .g)) (s .args .level) (c .whole .ensures) (s .pre .0) (s .pre .1), s .pre .2)
+visit-requires c κs = let s = c .before .before .before in let g = now (s .args .g) in let k = points-control g (s .pre .0) in let held = s .pre .2 in
+    (whole-room g k (s .args .level) (s .pre .1), whole-held g k (s .args .level) _ (held .pass .count) (c .before .note .ensures (held .pass) (held .is)) (held .room))
 
 returns : tie.Need-returns
-returns c = let s = c .before .before in
-    (c .visit .ensures .0 ∙ ap (λ (q : Cell). visited (s .args .level) q (fresh (s .args .count))) (whole-cell (c .before .whole .result) (now (s .args .g)) (c .before .whole .ensures)), c .visit .ensures .1)
+returns c p e = c .visit .ensures (fresh (p .count)) (c .before .before .note .ensures p e)
 
 pub pass-at-spec : {M : Type 1} → statement M
-pass-at-spec = tie.close (tie.spec whole-requires visit-requires returns)
+pass-at-spec = tie.close (tie.spec note-requires visit-requires returns)

@@ -1,50 +1,22 @@
--- `search::settle` meets its contract: by what was found. Assumes nothing.
-use mathlib.Core.Path.{sym, ap, _∙_}
-use Rattle.definitions.specs.Record.{verdictWords}
-use Rattle.search.specs.declared.Found.{Found as HeldFound}
-use Rattle.search.specs.Meaning.{foundOf}
-use Rattle.search.specs.Levels.{outcome}
+-- `search::settle` meets its contract: word 1 is the level. Assumes nothing.
+use Prim.Native.Nat.{_<_}
+use native.Mathlib.Omega.{arith}
+use mir.Syntax.{w64}
+use mir.ValLaws.{toZ-pos}
+use denote.Ref.{now}
 use borrow.Author.Needs.{needs}
+use Rattle.search.proofs.Passes.{settled-word}
 use Rattle.search.proofs.settle.Statement.{statement}
 use Rattle.search.proofs.settle.Tie as tie
 
-enum-told : tie.Need-enum-told
-enum-told c = search needs
+cast-pass : tie.Need-cast-pass
+cast-pass c = search needs
 
-record-words-requires : tie.Need-record-words-requires
-record-words-requires c κs = search needs
-
-enum-known-found : tie.Need-enum-known-found
-enum-known-found c = search needs
-
-record-words-requires-2 : tie.Need-record-words-requires-2
-record-words-requires-2 c κs = search needs
-
-enum-known-found-2 : tie.Need-enum-known-found-2
-enum-known-found-2 c = search needs
-
-record-words-requires-3 : tie.Need-record-words-requires-3
-record-words-requires-3 c κs = search needs
+element-set-from-pass : tie.Need-element-set-from-pass
+element-set-from-pass c = search needs
 
 returns : tie.Need-returns
-returns c = c .record-words .ensures ∙ sym (ap (λ (o : HeldFound). verdictWords (outcome (c .before .before .before .args .level) (foundOf o)) (c .before .before .before .args .r .count)) (c .before .enum-told .given .1))
-
-returns-2 : tie.Need-returns-2
-returns-2 c = c .record-words2 .ensures ∙ sym (ap (λ (o : HeldFound). verdictWords (outcome (c .before .before .before .before .args .level) (foundOf o)) (c .before .before .before .before .args .r .count)) (c .before .before .found .given .1))
-
-returns-3 : tie.Need-returns-3
-returns-3 c = c .record-words3 .ensures ∙ sym (ap (λ (o : HeldFound). verdictWords (outcome (c .before .before .before .before .args .level) (foundOf o)) (c .before .before .before .before .args .r .count)) (c .before .before .found2 .given .1))
+returns c p e = let l : c .args .level < 9223372036854775808 = omega arith in settled-word (now (c .args .pass)) p (c .args .level) _ e (toZ-pos w64 (c .args .level) l)
 
 pub settle-spec : {M : Type 1} → statement M
-settle-spec =
-    tie.close
-    (tie.spec
-    enum-told
-    record-words-requires
-    enum-known-found
-    record-words-requires-2
-    enum-known-found-2
-    record-words-requires-3
-    returns
-    returns-2
-    returns-3)
+settle-spec = tie.close (tie.spec cast-pass element-set-from-pass returns)
