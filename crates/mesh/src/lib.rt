@@ -124,14 +124,14 @@ fn gather(coordinates: &[i32], ix: &[u32], p: &mut [i32; 24])
     requires { ⌜ ((k : ℕ) → k < 8 → getD (now ix) k 0 < length (now coordinates) / 3) ⌝ }
     ensures { λ _. ⌜ now (p .exit) ≡ pointsOf (now (coordinates .entry)) (now (ix .entry)) ⌝ }
 {
-    for k in 0..8 {
-        let at = 3 * (ix[k] as usize);
+    for place in 0..8 {
+        let at = 3 * (ix[place] as usize);
         let x = coordinates[at];
         let y = coordinates[at + 1];
         let z = coordinates[at + 2];
-        p[3 * k] = x;
-        p[3 * k + 1] = y;
-        p[3 * k + 2] = z;
+        p[3 * place] = x;
+        p[3 * place + 1] = y;
+        p[3 * place + 2] = z;
     }
 }
 

@@ -1,6 +1,9 @@
 //! The inspector as one would write it in Rust for speed: volumes and
 //! coefficients by direct formulas, and a recursive search by de Casteljau's
-//! rule that cuts no further than it must.
+//! rule that cuts no cube further than it must.
+//!
+//! Beside it the same with what the library's search does more (`SPARE`): the
+//! children in a half without a low coefficient are passed over.
 
 use crate::mesh::{
     determinant, difference, invalid, sum, undecided, valid, Answer, Record, CORNERS,
@@ -18,10 +21,19 @@ const ORDER: [usize; 27] = [
 ];
 
 pub fn inspect(coordinates: &[i32], indices: &[u32], depth: u32, report: &mut [i64]) -> Answer {
-    crate::mesh::inspect(coordinates, indices, depth, report, record)
+    crate::mesh::inspect(coordinates, indices, depth, report, record::<false>)
 }
 
-fn record(n: &[[i64; 3]; 8], depth: u32) -> Record {
+pub fn inspect_sparing(
+    coordinates: &[i32],
+    indices: &[u32],
+    depth: u32,
+    report: &mut [i64],
+) -> Answer {
+    crate::mesh::inspect(coordinates, indices, depth, report, record::<true>)
+}
+
+fn record<const SPARE: bool>(n: &[[i64; 3]; 8], depth: u32) -> Record {
     // the twelve edges, along xi, eta and zeta
     let (x12, x43) = (difference(n[0], n[1]), difference(n[3], n[2]));
     let (x56, x87) = (difference(n[4], n[5]), difference(n[7], n[6]));
@@ -84,7 +96,7 @@ fn record(n: &[[i64; 3]; 8], depth: u32) -> Record {
     if all_positive(&net) {
         return valid(0, 1);
     }
-    deeper(&net, depth)
+    deeper::<SPARE>(&net, depth)
 }
 
 fn all_positive(net: &Net) -> bool {
@@ -93,12 +105,12 @@ fn all_positive(net: &Net) -> bool {
 
 /// The whole has positive corners and some coefficient not above 0: level by
 /// level, until a level decides or the depth is reached.
-fn deeper(whole: &Net, depth: u32) -> Record {
+fn deeper<const SPARE: bool>(whole: &Net, depth: u32) -> Record {
     let mut opened = 1;
     let mut blocked = first_fault(whole, [0; 3]);
     for level in 1..=depth {
         let mut pass = Pass { level, opened, fault: None };
-        if let Err(record) = pass.visit(whole, [0; 3], level) {
+        if let Err(record) = pass.visit::<SPARE>(whole, [0; 3], level) {
             return record;
         }
         opened = pass.opened;
@@ -131,7 +143,12 @@ struct Pass {
 impl Pass {
     /// The due cubes `left` levels below this one, in path order; the record
     /// of the first corner not above 0, if there is one.
-    fn visit(&mut self, net: &Net, cube: [u32; 3], left: u32) -> Result<(), Record> {
+    fn visit<const SPARE: bool>(
+        &mut self,
+        net: &Net,
+        cube: [u32; 3],
+        left: u32,
+    ) -> Result<(), Record> {
         if left == 0 {
             return self.open(net, cube);
         }
@@ -141,15 +158,34 @@ impl Pass {
         // zeta, then eta, then xi: children 1 to 4 come of the lower half, and
         // nothing is cut that a low corner makes needless
         for (half, z) in halves::<9>(net).iter().zip(0..) {
+            if SPARE && all_positive(half) {
+                self.pass_over(4, left - 1);
+                continue;
+            }
             let [low, high] = halves::<3>(half);
-            let [first, second] = halves::<1>(&low);
-            self.visit(&first, child(cube, [0, 0, z]), left - 1)?;
-            self.visit(&second, child(cube, [1, 0, z]), left - 1)?;
-            let [fourth, third] = halves::<1>(&high);
-            self.visit(&third, child(cube, [1, 1, z]), left - 1)?;
-            self.visit(&fourth, child(cube, [0, 1, z]), left - 1)?;
+            if SPARE && all_positive(&low) {
+                self.pass_over(2, left - 1);
+            } else {
+                let [first, second] = halves::<1>(&low);
+                self.visit::<SPARE>(&first, child(cube, [0, 0, z]), left - 1)?;
+                self.visit::<SPARE>(&second, child(cube, [1, 0, z]), left - 1)?;
+            }
+            if SPARE && all_positive(&high) {
+                self.pass_over(2, left - 1);
+            } else {
+                let [fourth, third] = halves::<1>(&high);
+                self.visit::<SPARE>(&third, child(cube, [1, 1, z]), left - 1)?;
+                self.visit::<SPARE>(&fourth, child(cube, [0, 1, z]), left - 1)?;
+            }
         }
         Ok(())
+    }
+
+    /// Cubes without a low coefficient, `left` levels above the last.
+    fn pass_over(&mut self, cubes: u32, left: u32) {
+        if left == 0 {
+            self.opened += cubes;
+        }
     }
 
     fn open(&mut self, net: &Net, cube: [u32; 3]) -> Result<(), Record> {

@@ -1,8 +1,9 @@
 //! Time an element: the built library, an ordinary Rust version with direct
-//! formulas, and the library's own method in ordinary Rust.
+//! formulas, that version with the library's sparing of clear halves, and the
+//! library's own method in ordinary Rust.
 //!
 //! Prints, for lots of 900 elements at depth 3, the best of several rounds in
-//! microseconds an element and the ratios.  The three reports of each lot must
+//! microseconds an element and the ratios.  The four reports of each lot must
 //! be the same, word for word.  Use: `bench`, or `bench ROUNDS`, or `bench
 //! ROUNDS NAME` for the lots whose name begins with NAME.
 
@@ -27,8 +28,12 @@ fn library(coordinates: &[i32], indices: &[u32], depth: u32, report: &mut [i64])
     [answer.number, answer.valid, answer.invalid, answer.undecided, answer.refused]
 }
 
-const VERSIONS: [(&str, Inspect); 3] =
-    [("library", library), ("direct", direct::inspect), ("same method", same_method::inspect)];
+const VERSIONS: [(&str, Inspect); 4] = [
+    ("library", library),
+    ("direct", direct::inspect),
+    ("sparing", direct::inspect_sparing),
+    ("same method", same_method::inspect),
+];
 
 /// A sum over all report words in which the order counts.
 fn checksum(report: &[i64]) -> u64 {
@@ -62,10 +67,10 @@ fn times_a_round(lot: &Lot, inspect: Inspect, report: &mut [i64]) -> u32 {
 
 /// Best time an element of each version, in microseconds; the versions take
 /// turns, so that a disturbance meets them alike.
-fn best(lot: &Lot, rounds: u32) -> [f64; 3] {
+fn best(lot: &Lot, rounds: u32) -> [f64; 4] {
     let mut report = vec![0; 8 * ELEMENTS];
     let times = VERSIONS.map(|(_, inspect)| times_a_round(lot, inspect, &mut report));
-    let mut best = [f64::INFINITY; 3];
+    let mut best = [f64::INFINITY; 4];
     for _ in 0..rounds {
         for (version, (_, inspect)) in VERSIONS.iter().enumerate() {
             let took = time(lot, *inspect, &mut report, times[version]);
@@ -76,7 +81,7 @@ fn best(lot: &Lot, rounds: u32) -> [f64; 3] {
     best
 }
 
-/// The three reports, found equal; the lot's own figures.
+/// The reports of all versions, found equal; the lot's own figures.
 fn checked(lot: &Lot) -> Result<String, String> {
     let (answer, report) = report_of(lot, library);
     for (name, inspect) in VERSIONS {
@@ -102,21 +107,29 @@ fn main() -> Result<(), String> {
     };
     let name = std::env::args().nth(2).unwrap_or_default();
     let lots: Vec<Lot> = lots().into_iter().filter(|lot| lot.name.starts_with(&name)).collect();
-    println!("lots of {ELEMENTS} elements at depth {DEPTH}; the three reports are the same");
+    println!("lots of {ELEMENTS} elements at depth {DEPTH}; the four reports are the same");
     for lot in &lots {
         println!("  {}: {}", lot.name, checked(lot)?);
     }
     println!("microseconds an element, best of {rounds} rounds");
     println!(
-        "  {:26} {:>9} {:>9} {:>12} {:>12} {:>12}",
-        "lot", "library", "direct", "same method", "lib/direct", "lib/same"
+        "  {:26} {:>8} {:>8} {:>8} {:>12} {:>11} {:>11} {:>9}",
+        "lot",
+        "library",
+        "direct",
+        "sparing",
+        "same method",
+        "lib/direct",
+        "lib/sparing",
+        "lib/same"
     );
     for lot in &lots {
-        let [library, direct, same] = best(lot, rounds);
+        let [library, direct, sparing, same] = best(lot, rounds);
         println!(
-            "  {:26} {library:9.3} {direct:9.3} {same:12.3} {:12.2} {:12.2}",
+            "  {:26} {library:8.3} {direct:8.3} {sparing:8.3} {same:12.3} {:11.2} {:11.2} {:9.2}",
             lot.name,
             library / direct,
+            library / sparing,
             library / same
         );
     }

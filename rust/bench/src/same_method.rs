@@ -1,6 +1,7 @@
 //! The product's own method in ordinary Rust: twenty volumes, the table of 540
-//! read in full, coefficients in the order of their numbers, all eight children
-//! cut at once, and one pass of the search for every level.
+//! read in full, coefficients in the order of their numbers, one pass of the
+//! search for every level, children made by halves, and those of a half without
+//! a low coefficient passed over.
 
 use crate::mesh::{
     determinant, difference, invalid, sum, undecided, valid, Answer, Record, CORNERS,
@@ -161,30 +162,16 @@ fn lowest(net: &Net) -> usize {
 }
 
 /// One half in a direction, four times larger.
-fn halve(net: &Net, direction: usize, upper: bool, out: &mut Net) {
+fn halve(net: &Net, direction: usize, side: u32) -> Net {
+    let mut out = [0; 27];
     for &[x, y, z] in &ROWS[direction] {
         let (p, q, r) = (net[x], net[y], net[z]);
         let middle = p + 2 * q + r;
-        let half = if upper { [middle, 2 * (q + r), 4 * r] } else { [4 * p, 2 * (p + q), middle] };
+        let half =
+            if side == 1 { [middle, 2 * (q + r), 4 * r] } else { [4 * p, 2 * (p + q), middle] };
         [out[x], out[y], out[z]] = half;
     }
-}
-
-/// All eight children in corner order.
-fn cut(net: &Net) -> [Net; 8] {
-    let mut halves = [[0; 27]; 2];
-    let mut quarters = [[0; 27]; 4];
-    let mut children = [[0; 27]; 8];
-    for (k, half) in halves.iter_mut().enumerate() {
-        halve(net, 0, CORNERS[k][0] == 1, half);
-    }
-    for (k, quarter) in quarters.iter_mut().enumerate() {
-        halve(&halves[CORNERS[k][0] as usize], 1, CORNERS[k][1] == 1, quarter);
-    }
-    for (k, child) in children.iter_mut().enumerate() {
-        halve(&quarters[k % 4], 2, CORNERS[k][2] == 1, child);
-    }
-    children
+    out
 }
 
 /// What a pass has found.
@@ -214,6 +201,13 @@ impl Pass {
         }
     }
 
+    /// Cells without a low coefficient, `left` levels above the last.
+    fn skip(&mut self, cells: u32, left: u32) {
+        if left == 0 {
+            self.opened += cells;
+        }
+    }
+
     fn visit(&mut self, net: &Net, cube: [u32; 3], left: u32) {
         if matches!(self.found, Found::Corner { .. }) {
             return;
@@ -224,9 +218,30 @@ impl Pass {
         if lowest(net) == 0 {
             return;
         }
-        for (child, place) in cut(net).iter().zip(CORNERS) {
+        let (mut half, mut quarter) = ([0; 27], [0; 27]);
+        let mut k = 0;
+        while k < 8 && !matches!(self.found, Found::Corner { .. }) {
+            let place = CORNERS[k];
+            if k % 4 == 0 {
+                half = halve(net, 2, place[2]);
+                if lowest(&half) == 0 {
+                    self.skip(4, left - 1);
+                    k += 4;
+                    continue;
+                }
+            }
+            if k % 2 == 0 {
+                quarter = halve(&half, 1, place[1]);
+                if lowest(&quarter) == 0 {
+                    self.skip(2, left - 1);
+                    k += 2;
+                    continue;
+                }
+            }
+            let child = halve(&quarter, 0, place[0]);
             let at = [0, 1, 2].map(|axis| 2 * cube[axis] + place[axis]);
-            self.visit(child, at, left - 1);
+            self.visit(&child, at, left - 1);
+            k += 1;
         }
     }
 }

@@ -30,11 +30,11 @@ shared-slice-read-at : tie.Need-shared-slice-read-at Inv-loop μ-loop
 shared-slice-read-at c = search needs
 
 -- the node that a turn reads is one of the mesh
-named : (c : tie.After-shared-slice-known Inv-loop μ-loop) → getD (c .before .before .before .args .ix .now) (c .before .before .loop .k) 0 < length (c .before .before .before .args .coordinates .now) / 3
-named c = c .before .before .before .pre .1 .1 (c .before .before .loop .k) (omega arith)
+named : (c : tie.After-shared-slice-known Inv-loop μ-loop) → getD (c .before .before .before .args .ix .now) (c .before .before .loop .place) 0 < length (c .before .before .before .args .coordinates .now) / 3
+named c = c .before .before .before .pre .1 .1 (c .before .before .loop .place) (omega arith)
 
 cast-at : tie.Need-cast-at Inv-loop μ-loop
-cast-at c = omega (arith, c .shared-slice-known .given (c .before .before .loop .k))
+cast-at c = omega (arith, c .shared-slice-known .given (c .before .before .loop .place))
 
 mul-at-2 : tie.Need-mul-at-2 Inv-loop μ-loop
 mul-at-2 c = omega (arith, named c)
@@ -96,8 +96,8 @@ mul-z-3 c = search needs
 element-set-from-z : tie.Need-element-set-from-z Inv-loop μ-loop
 element-set-from-z c = search needs
 
-add-k : tie.Need-add-k Inv-loop μ-loop
-add-k c = search needs
+add-place : tie.Need-add-place Inv-loop μ-loop
+add-place c = search needs
 
 loop-less : tie.Need-loop-less Inv-loop μ-loop
 loop-less c = search needs
@@ -106,14 +106,14 @@ loop-again : tie.Need-loop-again Inv-loop μ-loop
 loop-again c =
     let s = c .before .before .before .before .before .before in
     let at = c .before .before .before .before .before .loop in
-    let k = at .k in
+    let k = at .place in
     let coordinates = s .args .coordinates .now in
     let ix = s .args .ix .now in
     let node = 3 * getD ix k 0 in
     let here : k < 8 = omega arith in
     let first : node + 0 ≡ node = omega arith in
-    let place : 3 * k + 0 ≡ 3 * k = omega arith in
-    let x = toZ-ofZ w32 (getD coordinates node (pos 0)) (record { sfits = c .before .before .x .given }) ∙ ap (λ (n : ℕ). getD coordinates n (pos 0)) (sym first) ∙ sym (axis-at coordinates ix k 0 here (omega arith)) ∙ ap (λ (n : ℕ). getD (pointsOf coordinates ix) n (pos 0)) place in
+    let start : 3 * k + 0 ≡ 3 * k = omega arith in
+    let x = toZ-ofZ w32 (getD coordinates node (pos 0)) (record { sfits = c .before .before .x .given }) ∙ ap (λ (n : ℕ). getD coordinates n (pos 0)) (sym first) ∙ sym (axis-at coordinates ix k 0 here (omega arith)) ∙ ap (λ (n : ℕ). getD (pointsOf coordinates ix) n (pos 0)) start in
     let y = toZ-ofZ w32 (getD coordinates (node + 1) (pos 0)) (record { sfits = c .before .y .given }) ∙ sym (axis-at coordinates ix k 1 here (omega arith)) in
     let z = toZ-ofZ w32 (getD coordinates (node + 2) (pos 0)) (record { sfits = c .z .given }) ∙ sym (axis-at coordinates ix k 2 here (omega arith)) in
     let below = fill-three (at .p) (pointsOf coordinates ix) (3 * k) _ _ _ (omega (arith, at .inv .1)) (at .inv .2) x y z in
@@ -157,7 +157,7 @@ gather-spec =
     add-z-2
     mul-z-3
     element-set-from-z
-    add-k
+    add-place
     loop-less
     loop-again
     returns)
