@@ -1,8 +1,8 @@
 // Cell addresses and their moves.
 // The reference cube is the cell of level 0, and a cell cut into eight gives cells one level finer (document 01 says "cube" for a cell
 // of any level). The crate offers `Address` with the moves `child`, `corner` and `parent`. Each takes the address by value and hands back
-// the moved one, or the same one where the move can't be made. `side` is the rule by which corners and children are numbered. They ask
-// nothing of the caller: any address and any number is answered, as `childAddress`, `cornerAddress`, `parentAddress` and `side` of the
+// the moved one, or the same one where the move can't be made. `side` is the rule by which corners and children are numbered. The
+// moves and `side` ask nothing of the caller: any address and any number is answered, as `childAddress`, `cornerAddress`, `parentAddress` and `side` of the
 // definitions say.
 ghost use mathlib.Core.Path.{_≡_};
 ghost use Prim.Native.Nat.{_^_, _<_, _≤_};
@@ -45,7 +45,7 @@ fn is_corner(n: u32) -> bool
     (1 <= n) & (n <= 8)
 }
 
-// The side, 0 or 1, of corner k, 0 to 7, in direction 0, 1 or 2; 0 of any other number.
+// The side, 0 or 1, of corner k, 0 to 7, in direction 0, 1 or 2; a larger direction counts as 2, and a larger k has side 0.
 pub fn side(d: u32, k: u32) -> u32
     ensures { λ r. ⌜ (r ≡ sideOf d k) × (r ≤ 1) ⌝ }
 {

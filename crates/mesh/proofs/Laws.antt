@@ -18,7 +18,7 @@ usable-tests (pos n) = refl
 usable-tests (negsuc n) = and-true (leb n 4095) ∙ sym (leb·suc-suc n 4095)
 
 -- the first k of p are those of q; the store of the next one
-pub fill-next : (p q : List ℤ) (k : ℕ) (v : ℤ) → k < length p → ((j : ℕ) → j < k → getD p j (pos 0) ≡ getD q j (pos 0)) → v ≡ getD q k (pos 0)
+fill-next : (p q : List ℤ) (k : ℕ) (v : ℤ) → k < length p → ((j : ℕ) → j < k → getD p j (pos 0) ≡ getD q j (pos 0)) → v ≡ getD q k (pos 0)
     → (j : ℕ) → j < k + 1 → getD (set p k v) j (pos 0) ≡ getD q j (pos 0)
 fill-next p q k v n below e j l = elim (ℕ-discrete k j) [
   | yes r ↦ subst (λ (i : ℕ). getD (set p k v) i (pos 0) ≡ getD q i (pos 0)) r (getD-set-same p k v (pos 0) n ∙ e)

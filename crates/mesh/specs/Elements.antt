@@ -16,11 +16,11 @@ use Rattle.foundation.specs.Words.{Within, within}
 use Rattle.definitions.specs.Limits.{Limits}
 use Rattle.definitions.specs.Record.{Fault, missing, outside}
 use Rattle.definitions.specs.Mesh.{Refusal, depthTooGreat, badCoordinates, badIndices, badSpace, wellSized, refusal, usable, pointsOf, outOfRange, faultOf}
-use Rattle.mesh.specs.Meaning.{missingIndex}
+use Rattle.mesh.specs.Meaning.{missingIndex, pointsAfter}
 use Rattle.mesh.specs.Search.{first-below, first-none}
 
 -- a test that refuses has not accepted
-pub never : {A B : Type 0} {x : A} → some x ≡ none → B
+never : {A B : Type 0} {x : A} → some x ≡ none → B
 never e = let z : _≡_ {A = ℕ} 0 1 = cc in absurd (omega arith)
 
 -- ---- which meshes are refused, by the four tests
@@ -55,7 +55,6 @@ well-sized n k most e =
 -- What holds of a mesh that is accepted.
 pub record Accepted (L : Limits) (coordinates indices space D : ℕ) : Type 0 where
   pub depth : D ≤ L .depth
-  pub threes : coordinates % 3 ≡ 0
   pub nodes : coordinates / 3 ≤ L .nodes
   pub eights : indices % 8 ≡ 0
   pub elements : indices / 8 ≤ L .elements
@@ -74,7 +73,6 @@ module _ (L : Limits) (coordinates indices space D : ℕ) where
       let elements = well-sized indices 8 (L .elements) (tests .2) in
       record {
         depth = ltb-false _ _ (tests .0);
-        threes = nodes .0;
         nodes = nodes .1;
         eights = elements .0;
         elements = elements .1;
@@ -133,9 +131,22 @@ faultBy-none ix none none e = (refl, refl)
 faultBy-none ix none (some k) e = never e
 faultBy-none ix (some k) o e = never e
 
+-- where its points go
+module _ (coordinates : List ℤ) (ix : List ℕ) (before : List ℤ) where
+  abbrev placed : Option ℕ → List ℤ
+  placed m = elim m [ some k ↦ before | none ↦ pointsOf coordinates ix ]
+
+  pub points-kept : (k : ℕ) → missingIndex (length coordinates / 3) ix ≡ some k → before ≡ pointsAfter coordinates ix before
+  unfolding pointsAfter
+  points-kept k m = sym (ap placed m)
+
+  pub points-gathered : missingIndex (length coordinates / 3) ix ≡ none → pointsOf coordinates ix ≡ pointsAfter coordinates ix before
+  unfolding pointsAfter
+  points-gathered m = sym (ap placed m)
+
 -- What holds of an element that is not refused.
 pub record Whole (L : Limits) (coordinates : List ℤ) (ix : List ℕ) : Type 0 where
-  pub indices : (k : ℕ) → k < 8 → getD ix k 0 < length coordinates / 3
+  pub named : missingIndex (length coordinates / 3) ix ≡ none
   pub points : outOfRange L (pointsOf coordinates ix) ≡ none
 
 module _ (L : Limits) (coordinates : List ℤ) (ix : List ℕ) where
@@ -156,4 +167,4 @@ module _ (L : Limits) (coordinates : List ℤ) (ix : List ℕ) where
   pub whole-element : faultOf L coordinates ix ≡ none → Whole L coordinates ix
   whole-element e =
       let found = faultBy-none ix (missingIndex (length coordinates / 3) ix) (outOfRange L (pointsOf coordinates ix)) (sym fault-by ∙ e) in
-      record { indices = missing-none (length coordinates / 3) ix (found .0); points = found .1 }
+      record { named = found .0; points = found .1 }

@@ -1,12 +1,12 @@
 -- What the code's answers stand for in the definitions.
 use mathlib.Core.List.{List}
 use mathlib.Core.Option.{Option, none, some}
-use Prim.Native.Nat.{ℕ}
+use Prim.Native.Nat.{ℕ, _/_}
 use lib.Dec.{leb}
-use lib.ListN.{getD}
+use lib.ListN.{getD, length}
 use lib.IntN.{ℤ, pos}
 use Rattle.definitions.specs.Record.{Fault, missing, outside, words, faultWords}
-use Rattle.definitions.specs.Mesh.{Refusal, depthTooGreat, badCoordinates, badIndices, badSpace, firstFrom, Counts}
+use Rattle.definitions.specs.Mesh.{Refusal, depthTooGreat, badCoordinates, badIndices, badSpace, firstFrom, pointsOf, Counts}
 use Rattle.mesh.specs.declared.Checked.{Checked}
 use Rattle.mesh.specs.declared.Checked.the-variants.{Accepted, DepthTooGreat, BadCoordinates, BadIndices, BadSpace}
 use Rattle.mesh.specs.declared.First.{First}
@@ -29,6 +29,10 @@ firstOf Nothing = none
 -- the first of the eight indices that is not below the number of nodes, as `faultOf` has it
 unfoldable pub missingIndex : ℕ → List ℕ → Option ℕ
 missingIndex nodes ix = firstFrom (λ k. leb nodes (getD ix k 0)) 0 8
+
+-- what stands where an element's points go: the points, once all eight indices name nodes
+unfoldable pub pointsAfter : List ℤ → List ℕ → List ℤ → List ℤ
+pointsAfter coordinates ix before = elim (missingIndex (length coordinates / 3) ix) [ some k ↦ before | none ↦ pointsOf coordinates ix ]
 
 abbrev pub elementOf : Element → Option Fault
 elementOf Whole = none

@@ -4,13 +4,12 @@
 // 1 to 8 of one of its indices. Every answer is an equation with `Mesh` and `Record` of the definitions at the limits `base`.
 ghost use mathlib.Core.Path.{_≡_};
 ghost use mathlib.Core.List.{_++_};
-ghost use mathlib.Core.Option.{none};
 ghost use Prim.Native.Nat.{ℕ, _+_, _-_, _*_, _/_, _^_, _<_, _≤_};
 ghost use lib.ListN.{length, getD, take, drop};
 ghost use lib.IntN.{pos, natAbs};
 ghost use Rattle.definitions.specs.Limits.{base};
 ghost use Rattle.definitions.specs.Mesh.{wellSized, refusal, usable, pointsOf, outOfRange, faultOf, counted};
-ghost use Rattle.mesh.specs.Meaning.{checkOf, firstOf, missingIndex, elementOf, refusedWords, countsHeld};
+ghost use Rattle.mesh.specs.Meaning.{checkOf, firstOf, missingIndex, pointsAfter, elementOf, refusedWords, countsHeld};
 ghost use Rattle.verdict.specs.Elements.{total};
 
 // The limits of the definitions' `base`; the greatest depth is `address`'s.
@@ -84,7 +83,7 @@ pub fn check(coordinates: usize, indices: usize, space: usize, depth: u32) -> Ch
 }
 
 // Whether a coordinate lies within the range.
-pub fn usable(x: i32) -> bool
+fn usable(x: i32) -> bool
     ensures { λ r. ⌜ r ≡ usable base x ⌝ }
 {
     (MIN_COORDINATE <= x) & (x <= MAX_COORDINATE)
@@ -135,12 +134,12 @@ fn gather(coordinates: &[i32], ix: &[u32], p: &mut [i32; 24])
     }
 }
 
-// Why an element is refused, if it is: all eight indices are tested before any coordinate. Of a whole element, its points.
+// Why an element is refused, if it is: all eight indices are tested before any coordinate. Where they all name nodes, p has the points.
 pub fn fault(coordinates: &[i32], ix: &[u32], p: &mut [i32; 24]) -> Element
     requires { ⌜ length (now ix) ≡ 8 ⌝ }
     requires { ⌜ length (now p) ≡ 24 ⌝ }
     ensures { λ r. ⌜ elementOf r ≡ faultOf base (now (coordinates .entry)) (now (ix .entry)) ⌝ }
-    ensures { λ r. ⌜ (elementOf r ≡ none → now (p .exit) ≡ pointsOf (now (coordinates .entry)) (now (ix .entry))) ⌝ }
+    ensures { λ r. ⌜ now (p .exit) ≡ pointsAfter (now (coordinates .entry)) (now (ix .entry)) (now (p .entry)) ⌝ }
 {
     let missing = missing_index(coordinates.len() / 3, ix);
     if let First::At(k) = missing {

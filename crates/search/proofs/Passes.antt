@@ -1,14 +1,13 @@
 -- The words of a pass as the code reads and writes them. Assumes nothing.
 use mathlib.Core.Path.{_≡_, refl, sym, _∙_, ap}
-use mathlib.Core.Bool.{Bool}
 use mathlib.Core.List.{List}
-use Prim.Native.Nat.{ℕ, _+_}
+use Prim.Native.Nat.{ℕ}
 use native.Mathlib.Omega.{arith}
 use lib.Dec.{eqb}
 use lib.ListN.{getD, set}
 use lib.IntN.{ℤ, pos}
 use mir.Syntax.{w64}
-use mir.Val.{toZ, ofZ}
+use mir.Val.{ofZ}
 use Rattle.definitions.specs.Record.{words, verdictWords}
 use Rattle.definitions.specs.Verdict.{Finding}
 use Rattle.verdict.specs.Search.{Found, nothing, coefficient, point, Pass, ended}

@@ -84,7 +84,7 @@ least-next v g k h = let p : k + 1 ≡ suc k = omega arith in ap (λ (n : ℕ). 
 abbrev pub boundsAt : List ℤ → ℕ → Extremes
 boundsAt xs D = record { low = low xs D; high = high xs D }
 
-abbrev pub greatest : ℤ
+abbrev greatest : ℤ
 greatest = pos 9223372036854775807
 
 below-magnitude : (z : ℤ) (b : ℕ) → natAbs z ≤ b → z ≤ℤ pos b

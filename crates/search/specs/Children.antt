@@ -9,23 +9,32 @@ use lib.IntN.{ℤ}
 use Rattle.foundation.specs.Lists.{equal-below}
 use Rattle.definitions.specs.Limits.{base}
 use Rattle.definitions.specs.Jacobian.{side}
-use Rattle.definitions.specs.Subdivision.{halve, Cell, child}
+use Rattle.definitions.specs.Subdivision.{halve, child}
 use Rattle.expansion.specs.Cut.{length-halve}
 use Rattle.expansion.specs.Size.{halve-size}
 use Rattle.verdict.specs.Points.{side-small}
 use Rattle.verdict.specs.Commute.{child-by-halves}
-use Rattle.verdict.specs.Clear.{Clear, unblocked-clear, halfOf, quarterOf, childControl, child-control, half-clear, quarter-clear}
+use Rattle.verdict.specs.Clear.{Clear, unblocked-clear, halfOf, quarterOf, childControl, half-clear, quarter-clear}
 use Rattle.subdivision.specs.Control.{Control, within-more}
 use Rattle.search.specs.Meaning.{cellOf, lowest, size, Small, Grid, Room}
 use Rattle.search.specs.Lowest.{clear}
 
 -- ---- which children lie in one half, and in one quarter
 -- the side of child k in ζ changes every four children, that in η every two
-pub half-kept : (k : ℕ) → k < 8 → side 2 k ≡ side 2 (4 * (k / 4))
+half-kept : (k : ℕ) → k < 8 → side 2 k ≡ side 2 (4 * (k / 4))
 half-kept k h = equal-below (side 2) (λ k. side 2 (4 * (k / 4))) 8 tt k h
 
-pub quarter-kept : (k : ℕ) → k < 8 → side 1 k ≡ side 1 (2 * (k / 2))
+quarter-kept : (k : ℕ) → k < 8 → side 1 k ≡ side 1 (2 * (k / 2))
 quarter-kept k h = equal-below (side 1) (λ k. side 1 (2 * (k / 2))) 8 tt k h
+
+-- the child that comes after n that are passed over, or after child k alone
+abbrev pub after : ℕ → ℕ → ℕ
+after k zero = k + 1
+after k (suc n) = k + suc n
+
+pub after-some : (k n : ℕ) → (n ≡ 0 → ⊥) → after k n ≡ k + n
+after-some k zero h = absurd (h refl)
+after-some k (suc n) h = refl
 
 module _ (g : List ℤ) where
   same-half : (j k : ℕ) → j < 8 → k < 8 → j / 4 ≡ k / 4 → halfOf g j ≡ halfOf g k
@@ -35,7 +44,7 @@ module _ (g : List ℤ) where
   same-quarter j k l m e = let f : j / 4 ≡ k / 4 = omega arith in
       (λ i. halve 1 ((quarter-kept j l ∙ ap (λ (n : ℕ). side 1 (2 * n)) e ∙ sym (quarter-kept k m)) i) (same-half j k l m f i))
 
-  -- before child k: the half and the quarter are there, but where child k is the first in them
+  -- before child k: the half and the quarter are there, except where child k is the first in them
   pub record Ready (k : ℕ) (half quarter : List ℤ) : Type 0 where
     pub half-sized : length half ≡ 27
     pub quarter-sized : length quarter ≡ 27
@@ -46,19 +55,10 @@ module _ (g : List ℤ) where
   ready-first half quarter p q = record { half-sized = p; quarter-sized = q; half-is = λ h. absurd (h refl); quarter-is = λ h. absurd (h refl) }
 
   -- n children from k on are known to have no low coefficient; where none is, the quarter is child k's; and the next child may come
-  abbrev pub after : ℕ → ℕ → ℕ
-  after k zero = k + 1
-  after k (suc n) = k + suc n
-
-  pub after-some : (k n : ℕ) → (n ≡ 0 → ⊥) → after k n ≡ k + n
-  after-some k zero h = absurd (h refl)
-  after-some k (suc n) h = refl
-
   pub record Run (k n : ℕ) (half quarter : List ℤ) : Type 0 where
     pub quarter-is : n ≡ 0 → quarter ≡ quarterOf g k
     pub clears : (j : ℕ) → k ≤ j → j < k + n → Clear (childControl g j)
     pub end : k + n ≤ 8
-    pub few : n ≤ 4
     pub next : after k n < 8 → Ready (after k n) half quarter
 
   pub half-length : (k : ℕ) (half : List ℤ) → half ≡ halfOf g k → length half ≡ 27
@@ -74,7 +74,6 @@ module _ (g : List ℤ) where
       quarter-is = λ n. absurd (omega arith);
       clears = λ j l m. half-clear g j (subst Clear (e ∙ same-half k j h (omega arith) (omega arith)) p);
       end = omega arith;
-      few = omega arith;
       next = λ m. record { half-sized = half-length k half e; quarter-sized = q; half-is = λ n. absurd (n (omega arith)); quarter-is = λ n. absurd (n (omega arith)) };
     }
 
@@ -84,7 +83,6 @@ module _ (g : List ℤ) where
       quarter-is = λ n. absurd (omega arith);
       clears = λ j l m. quarter-clear g j (subst Clear (f ∙ same-quarter k j h (omega arith) (omega arith)) p);
       end = omega arith;
-      few = omega arith;
       next = λ m. record { half-sized = half-length k half e; quarter-sized = quarter-length k quarter f; half-is = λ n. e ∙ same-half k (k + 2) h m (omega arith); quarter-is = λ n. absurd (n (omega arith)) };
     }
 
@@ -94,11 +92,10 @@ module _ (g : List ℤ) where
       quarter-is = λ n. f;
       clears = λ j l m. absurd (omega arith);
       end = omega arith;
-      few = omega arith;
       next = λ m. record { half-sized = half-length k half e; quarter-sized = quarter-length k quarter f; half-is = λ n. e ∙ same-half k (k + 1) h m (omega arith); quarter-is = λ n. f ∙ same-quarter k (k + 1) h m (omega arith) };
     }
 
--- a half without a lowest is clear
+-- 27 coefficients without a lowest are clear
 pub lowest-clear : (c : List ℤ) → length c ≡ 27 → lowest c ≡ 0 → Clear c
 lowest-clear c h e = unblocked-clear (cellOf 0 0 0 c) h (clear (cellOf 0 0 0 c) e)
 
@@ -107,25 +104,25 @@ pub child-made : (g : List ℤ) (k : ℕ) (quarter xs : List ℤ) → quarter �
 child-made g k quarter xs e f = f ∙ ap (halve 0 (side 0 k)) e ∙ child-by-halves g k
 
 -- ---- magnitudes
-pub half-control : (b d h : ℕ) (c : List ℤ) → Control b c → Control (4 * b) (halve d h c)
+half-control : (b d h : ℕ) (c : List ℤ) → Control b c → Control (4 * b) (halve d h c)
 half-control b d h c w = record { sized = length-halve d h c; within = halve-size b d h c (w .within) }
 
-pub control-more : (a b : ℕ) (c : List ℤ) → a ≤ b → Control a c → Control b c
+control-more : (a b : ℕ) (c : List ℤ) → a ≤ b → Control a c → Control b c
 control-more a b c h w = record { sized = w .sized; within = within-more a b c h (w .within) }
 
 grown : (k x n : ℕ) → k * x * k ^ n ≡ x * k ^ suc n
 grown k x n = ap (λ (m : ℕ). m * k ^ n) (mul-comm k x) ∙ mul-assoc x k (k ^ n) ∙ ap (λ (m : ℕ). x * m) (sym (pow-succ' k n))
 
 -- a cell that is cut, its half and its quarter
-module _ (g : List ℤ) (w : Control (2 ^ 57 - 1) g) (k : ℕ) where
+module _ (g : List ℤ) (w : Control (2 ^ 57 - 1) g) where
   pub cut-control : Control (2 ^ 61 - 1) g
   cut-control = control-more (2 ^ 57 - 1) (2 ^ 61 - 1) g (omega arith) w
 
-  pub cut-half : Control (2 ^ 61 - 1) (halfOf g k)
-  cut-half = control-more (4 * (2 ^ 57 - 1)) (2 ^ 61 - 1) (halfOf g k) (omega arith) (half-control (2 ^ 57 - 1) 2 (side 2 k) g w)
+  pub cut-half : (k : ℕ) → Control (2 ^ 61 - 1) (halfOf g k)
+  cut-half k = control-more (4 * (2 ^ 57 - 1)) (2 ^ 61 - 1) (halfOf g k) (omega arith) (half-control (2 ^ 57 - 1) 2 (side 2 k) g w)
 
-  pub cut-quarter : Control (2 ^ 61 - 1) (quarterOf g k)
-  cut-quarter = control-more (4 * (4 * (2 ^ 57 - 1))) (2 ^ 61 - 1) (quarterOf g k) (omega arith) (half-control (4 * (2 ^ 57 - 1)) 1 (side 1 k) (halfOf g k) (half-control (2 ^ 57 - 1) 2 (side 2 k) g w))
+  pub cut-quarter : (k : ℕ) → Control (2 ^ 61 - 1) (quarterOf g k)
+  cut-quarter k = control-more (4 * (4 * (2 ^ 57 - 1))) (2 ^ 61 - 1) (quarterOf g k) (omega arith) (half-control (4 * (2 ^ 57 - 1)) 1 (side 1 k) (halfOf g k) (half-control (2 ^ 57 - 1) 2 (side 2 k) g w))
 
 -- and its child
 module _ (g : List ℤ) where
@@ -155,9 +152,9 @@ child-grid x zero t h some l = absurd (some refl)
 child-grid x (suc n) t h some l = let e : n ≡ suc n - 1 = omega arith in let p : 2 * x + t + 1 ≤ 2 * (x + 1) = omega arith in
     subst (Grid (2 * x + t)) e (le-trans (mul-le-mul-right (2 ^ n) p) (subst (λ (i : ℕ). i ≤ 2 ^ base .depth) (sym (grown 2 (x + 1) n)) h))
 
-module _ (g : List ℤ) (a b c left k x y z : ℕ) (xs : List ℤ) (e : xs ≡ childControl g k) (p : x ≡ side 0 k) (q : y ≡ side 1 k) (r : z ≡ side 2 k) where
-  pub child-room : Room g a b c left → (left ≡ 0 → ⊥) → Room xs (2 * a + x) (2 * b + y) (2 * c + z) (left - 1)
-  child-room room some = record {
+module _ (g : List ℤ) (a b c k x y z : ℕ) (xs : List ℤ) (e : xs ≡ childControl g k) (p : x ≡ side 0 k) (q : y ≡ side 1 k) (r : z ≡ side 2 k) where
+  pub child-room : (left : ℕ) → Room g a b c left → (left ≡ 0 → ⊥) → Room xs (2 * a + x) (2 * b + y) (2 * c + z) (left - 1)
+  child-room left room some = record {
     small = child-small g left k xs (room .small) some e;
     a-grid = child-grid a left x (room .a-grid) some (subst (λ (n : ℕ). n < 2) (sym p) (side-small 0 k));
     b-grid = child-grid b left y (room .b-grid) some (subst (λ (n : ℕ). n < 2) (sym q) (side-small 1 k));

@@ -2,9 +2,8 @@
 use mathlib.Core.Path.{_≡_, refl, sym, _∙_, ap, subst}
 use mathlib.Core.Bool.{Bool, true, false, true≢false}
 use mathlib.Core.List.{List}
-use mathlib.Core.Option.{none}
-use Prim.Native.Nat.{ℕ, zero, suc, _+_, _*_, _^_, _<_, _≤_}
-use native.Mathlib.Nat.{pow-succ', pow-le-pow-right, zero-lt-suc, mul-le-mul-left}
+use Prim.Native.Nat.{ℕ, zero, suc, _+_, _^_, _<_, _≤_}
+use native.Mathlib.Nat.{pow-le-pow-right, zero-lt-suc, mul-le-mul-left}
 use native.Mathlib.Omega.{arith}
 use lib.IntN.{ℤ}
 use Rattle.definitions.specs.Limits.{base}
@@ -47,7 +46,7 @@ pub record At (xs : List ℤ) (m : ℕ) (r : Pass) : Type 0 where
   pub made : visit m (whole xs) (fresh earlier) ≡ r
 
 module _ (xs g : List ℤ) (e : g ≡ coefficients xs) where
-  pub at-first : (r : Pass) → r ≡ visit 0 (wholeOf g) (fresh 0) → At xs 0 r
+  at-first : (r : Pass) → r ≡ visit 0 (wholeOf g) (fresh 0) → At xs 0 r
   at-first r h = record { earlier = 0; before = before-first xs; made = sym (h ∙ ap (λ (s : Cell). visit 0 s (fresh 0)) (whole-is xs g e)) }
 
   blocked-is : (o : Found) → isBlocked o ≡ true → (m : ℕ) (r : Pass) → r .found ≡ o → At xs m r → Before xs (suc m) (r .count)
@@ -55,7 +54,7 @@ module _ (xs g : List ℤ) (e : g ≡ coefficients xs) where
   blocked-is (coefficient f) b m r q h = pass-on xs m (h .earlier) (h .before) (r .count) (r .found) (h .made) f q
   blocked-is (point f) b m r q h = absurd (true≢false (sym b))
 
-  pub at-next : (m : ℕ) (r r′ : Pass) → At xs m r → isBlocked (r .found) ≡ true → r′ ≡ visit (m + 1) (wholeOf g) (fresh (r .count)) → At xs (m + 1) r′
+  at-next : (m : ℕ) (r r′ : Pass) → At xs m r → isBlocked (r .found) ≡ true → r′ ≡ visit (m + 1) (wholeOf g) (fresh (r .count)) → At xs (m + 1) r′
   at-next m r r′ h b k = let p : suc m ≡ m + 1 = omega arith in record {
     earlier = r .count;
     before = subst (λ (n : ℕ). Before xs n (r .count)) p (blocked-is (r .found) b m r refl h);
@@ -75,7 +74,7 @@ settled xs m D r l h last = go (r .found) refl
 most-next : (m : ℕ) → most (m + 1) ≡ most m + 8 ^ (m + 1)
 most-next m = let p : m + 1 ≡ suc m = omega arith in ap most p ∙ ap (λ (n : ℕ). most m + 8 ^ n) (sym p)
 
-pub most-room : (m c c′ : ℕ) → c ≤ most m → c′ ≤ c + 8 ^ (m + 1) → c′ ≤ most (m + 1)
+most-room : (m c c′ : ℕ) → c ≤ most m → c′ ≤ c + 8 ^ (m + 1) → c′ ≤ most (m + 1)
 most-room m c c′ h k = omega (arith, most-next m)
 
 most-small : (m : ℕ) → m < 3 → most m ≤ 585
@@ -84,17 +83,16 @@ most-small (suc zero) h = omega arith
 most-small (suc (suc zero)) h = omega arith
 most-small (suc (suc (suc m))) h = absurd (omega arith)
 
-pub count-room : (m c : ℕ) → m < base .depth → c ≤ most m → c + 8 ^ (m + 1) ≤ 4294967295
+count-room : (m c : ℕ) → m < base .depth → c ≤ most m → c + 8 ^ (m + 1) < 2 ^ 63
 count-room m c h k = let l : m + 1 ≤ 3 = omega arith in let p : 8 ^ (m + 1) ≤ 8 ^ 3 = pow-le-pow-right (zero-lt-suc 7) l in omega (arith, most-small m h)
 
 -- ---- the whole element has room for every level
-module _ (g : List ℤ) (k : Control (size 0) g) (level : ℕ) where
-  pub whole-room : level ≤ base .depth → Room g 0 0 0 level
-  whole-room h = let grid : Grid 0 level = mul-le-mul-left 1 (pow-le-pow-right (zero-lt-suc 1) h) in
-      record { small = record { bound = size 0; control = k; small = mul-le-mul-left (size 0) (pow-le-pow-right (zero-lt-suc 63) h) }; a-grid = grid; b-grid = grid; c-grid = grid }
+pub whole-room : (g : List ℤ) → Control (size 0) g → (level : ℕ) → level ≤ base .depth → Room g 0 0 0 level
+whole-room g k level h = let grid : Grid 0 level = mul-le-mul-left 1 (pow-le-pow-right (zero-lt-suc 1) h) in
+    record { small = record { bound = size 0; control = k; small = mul-le-mul-left (size 0) (pow-le-pow-right (zero-lt-suc 63) h) }; a-grid = grid; b-grid = grid; c-grid = grid }
 
-  pub whole-held : (ws : List ℤ) (m : ℕ) → ws ≡ passWords (fresh m) → m + 8 ^ level < 2 ^ 63 → Held (8 ^ level) ws
-  whole-held ws m e h = record { pass = fresh m; is = e; room = h }
+pub whole-held : (level m : ℕ) (ws : List ℤ) → ws ≡ passWords (fresh m) → m + 8 ^ level < 2 ^ 63 → Held (8 ^ level) ws
+whole-held level m ws e h = record { pass = fresh m; is = e; room = h }
 
 -- ---- the words between passes
 pub record Made (g : List ℤ) (m : ℕ) (ws : List ℤ) : Type 0 where
@@ -116,4 +114,4 @@ module _ (g : List ℤ) where
   }
 
 pub made-room : (g : List ℤ) (m : ℕ) (ws : List ℤ) → m < base .depth → Made g m ws → Held (8 ^ (m + 1)) ws
-made-room g m ws h made = record { pass = made .pass; is = made .is; room = omega (arith, count-room m (made .pass .count) h (made .few)) }
+made-room g m ws h made = record { pass = made .pass; is = made .is; room = count-room m (made .pass .count) h (made .few) }

@@ -1,7 +1,7 @@
 -- The lowest number of a coefficient that is not above 0, and what it says of a cell's first low coefficient and corner.
 use mathlib.Core.Path.{_≡_, refl, sym, _∙_, ap, ap₂}
 use mathlib.Core.Bool.{Bool, true, false, true≢false}
-use mathlib.Core.List.{List, [], _∷_}
+use mathlib.Core.List.{List}
 use mathlib.Core.Option.{Option, none, some}
 use Prim.Native.Nat.{ℕ, zero, suc, _+_, _-_, _<_, _≤_}
 use native.Mathlib.Omega.{arith}
@@ -12,8 +12,8 @@ use Rattle.foundation.specs.Lists.{tabulate}
 use Rattle.definitions.specs.Jacobian.{side}
 use Rattle.definitions.specs.Subdivision.{Cell}
 use Rattle.definitions.specs.Verdict.{Finding, firstLow, found, coefficientsOf, blocked}
-use Rattle.verdict.specs.Findings.{orElse, orElse-none}
-use Rattle.verdict.specs.Search.{Found, nothing, coefficient, point, Pass, finds, pass, ended, openAfter, openCell, cornerValues}
+use Rattle.verdict.specs.Findings.{orElse}
+use Rattle.verdict.specs.Search.{Found, nothing, coefficient, point, finds, pass, ended, openAfter, openCell, cornerValues}
 use Rattle.search.specs.Meaning.{lowFrom, lowest}
 
 module _ (g : List ℤ) where
@@ -30,7 +30,7 @@ module _ (g : List ℤ) where
   low-later k (suc n) h e = let p : suc k ≡ k + 1 = omega arith in let q : n ≡ suc n - 1 = omega arith in ap (step k n) e ∙ (λ i. lowFrom g (p i) (q i))
 
   -- a number found is past the start
-  pub low-past : (k n : ℕ) → (lowFrom g k n ≡ 0 → ⊥) → k < lowFrom g k n
+  low-past : (k n : ℕ) → (lowFrom g k n ≡ 0 → ⊥) → k < lowFrom g k n
   low-past k zero h = absurd (h refl)
   low-past k (suc n) h = go (leZ (getD g k (pos 0)) (pos 0)) (low-past (suc k) n) h
     where
@@ -39,28 +39,27 @@ module _ (g : List ℤ) where
       go false r h = let p = r h in omega arith
 
   -- the first m alone: the same number if it is among them, else none
-  abbrev pub Prefix : ℕ → ℕ → ℕ → Type 0
-  Prefix k m l = record { inside : 1 ≤ l → l ≤ k + m → lowFrom g k m ≡ l; outside : k + m < l → lowFrom g k m ≡ 0; none : l ≡ 0 → lowFrom g k m ≡ 0 }
+  abbrev Prefix : ℕ → ℕ → ℕ → Type 0
+  Prefix k m l = record { inside : 1 ≤ l → l ≤ k + m → lowFrom g k m ≡ l; outside : k + m < l → lowFrom g k m ≡ 0 }
 
-  pub prefix : (m k n : ℕ) → m ≤ n → Prefix k m (lowFrom g k n)
+  prefix : (m k n : ℕ) → m ≤ n → Prefix k m (lowFrom g k n)
   prefix zero k n h = record {
     inside = λ p q. absurd (let e : lowFrom g k n ≡ 0 → ⊥ = λ z. omega arith in let r = low-past k n e in omega arith);
     outside = λ p. refl;
-    none = λ p. refl;
   }
   prefix (suc m) k zero h = absurd (omega arith)
   prefix (suc m) k (suc n) h = go (leZ (getD g k (pos 0)) (pos 0)) (prefix m (suc k) n (omega arith))
     where
-      go : (b : Bool) → Prefix (suc k) m (lowFrom g (suc k) n) → record { inside : 1 ≤ step k n b → step k n b ≤ k + suc m → step k m b ≡ step k n b; outside : k + suc m < step k n b → step k m b ≡ 0; none : step k n b ≡ 0 → step k m b ≡ 0 }
-      go true r = record { inside = λ p q. refl; outside = λ p. absurd (omega arith); none = λ p. absurd (omega arith) }
-      go false r = record { inside = λ p q. r .inside p (omega arith); outside = λ p. r .outside (omega arith); none = λ p. r .none p }
+      go : (b : Bool) → Prefix (suc k) m (lowFrom g (suc k) n) → record { inside : 1 ≤ step k n b → step k n b ≤ k + suc m → step k m b ≡ step k n b; outside : k + suc m < step k n b → step k m b ≡ 0 }
+      go true r = record { inside = λ p q. refl; outside = λ p. absurd (omega arith) }
+      go false r = record { inside = λ p q. r .inside p (omega arith); outside = λ p. r .outside (omega arith) }
 
 -- what the number found names
-abbrev pub named : (ℕ → Finding) → ℕ → Option Finding
+abbrev named : (ℕ → Finding) → ℕ → Option Finding
 named f zero = none
 named f (suc j) = some (f j)
 
-pub first-named : (g : List ℤ) (f : ℕ → Finding) → ((k : ℕ) → f k .value ≡ getD g k (pos 0)) → (k n : ℕ) → firstLow (tabulate f k n) ≡ named f (lowFrom g k n)
+first-named : (g : List ℤ) (f : ℕ → Finding) → ((k : ℕ) → f k .value ≡ getD g k (pos 0)) → (k n : ℕ) → firstLow (tabulate f k n) ≡ named f (lowFrom g k n)
 first-named g f h k zero = refl
 first-named g f h k (suc n) = ap (λ (z : ℤ). elim (leZ z (pos 0)) as (λ _. Option Finding) [ true ↦ some (f k) | false ↦ firstLow (tabulate f (suc k) n) ]) (h k) ∙ go (leZ (getD g k (pos 0)) (pos 0)) (first-named g f h (suc k) n)
   where
@@ -86,7 +85,7 @@ module _ (s : Cell) where
   unfolding cornerValues
   first-corner = first-named (s .control) atCorner (λ k. refl) 0 8
 
-  pub first-coefficient : firstLow (coefficientsOf s) ≡ named atCell (lowest (s .control))
+  first-coefficient : firstLow (coefficientsOf s) ≡ named atCell (lowest (s .control))
   unfolding coefficientsOf lowest
   first-coefficient = first-named (s .control) atCell (λ k. refl) 0 27
 
@@ -106,10 +105,10 @@ module _ (s : Cell) where
   low h = is-found (firstLow (coefficientsOf s)) (lowest (s .control)) first-coefficient h
 
   -- a low corner; a low coefficient that is no corner
-  pub open-corner : (j : ℕ) → lowest (s .control) ≡ suc j → j < 8 → (n : ℕ) (k : Option Finding) → openAfter n k s ≡ record { count = suc n; found = point (atCorner j) }
+  open-corner : (j : ℕ) → lowest (s .control) ≡ suc j → j < 8 → (n : ℕ) (k : Option Finding) → openAfter n k s ≡ record { count = suc n; found = point (atCorner j) }
   open-corner j e h n k = ap (λ p. pass (suc n) p (orElse k (firstLow (coefficientsOf s)))) (first-corner ∙ ap (named atCorner) (eight .inside (omega arith) (omega arith) ∙ e))
 
-  pub open-coefficient : (j : ℕ) → lowest (s .control) ≡ suc j → 8 ≤ j → (n : ℕ) (k : Option Finding) → openAfter n k s ≡ pass (suc n) none (orElse k (some (atCell j)))
+  open-coefficient : (j : ℕ) → lowest (s .control) ≡ suc j → 8 ≤ j → (n : ℕ) (k : Option Finding) → openAfter n k s ≡ pass (suc n) none (orElse k (some (atCell j)))
   open-coefficient j e h n k = ap₂ (λ p q. pass (suc n) p (orElse k q)) (first-corner ∙ ap (named atCorner) (eight .outside (omega arith))) (first-coefficient ∙ ap (named atCell) e)
 
   -- ---- after what was found before
@@ -129,12 +128,12 @@ module _ (s : Cell) where
   joins (coefficient g) e f = refl
   joins (point g) e f = absurd (true≢false e)
 
-  more : (n : ℕ) → suc n ≡ n + 1
-  more n = omega arith
+  next : (n : ℕ) → suc n ≡ n + 1
+  next n = omega arith
 
   module _ (n : ℕ) (o : Found) (e : ended o ≡ false) where
     pub opened-corner : (j : ℕ) → lowest (s .control) ≡ suc j → j < 8 → record { count = n + 1; found = point (atCorner j) } ≡ openCell s (record { count = n; found = o })
-    opened-corner j h l = sym (open-after n o e ∙ open-corner j h l n (earlier o) ∙ (λ i. record { count = more n i; found = point (atCorner j) }))
+    opened-corner j h l = sym (open-after n o e ∙ open-corner j h l n (earlier o) ∙ (λ i. record { count = next n i; found = point (atCorner j) }))
 
     pub opened-coefficient : (j : ℕ) → lowest (s .control) ≡ suc j → 8 ≤ j → record { count = n + 1; found = withCoefficient o (atCell j) } ≡ openCell s (record { count = n; found = o })
-    opened-coefficient j h l = sym (open-after n o e ∙ open-coefficient j h l n (earlier o) ∙ (λ i. record { count = more n i; found = joins o e (atCell j) i }))
+    opened-coefficient j h l = sym (open-after n o e ∙ open-coefficient j h l n (earlier o) ∙ (λ i. record { count = next n i; found = joins o e (atCell j) i }))

@@ -1,6 +1,6 @@
 -- What the code's cells and passes stand for, and what a search asks of them.
 use mathlib.Core.Path.{_≡_}
-use mathlib.Core.Bool.{Bool, true, false}
+use mathlib.Core.Bool.{true, false}
 use mathlib.Core.List.{List}
 use Prim.Native.Nat.{ℕ, zero, suc, _+_, _*_, _^_, _<_, _≤_}
 use lib.ListN.{getD}
@@ -9,7 +9,6 @@ use lib.Signed.{leZ}
 use Rattle.definitions.specs.Limits.{base}
 use Rattle.definitions.specs.Record.{words}
 use Rattle.definitions.specs.Subdivision.{Cell}
-use Rattle.definitions.specs.Verdict.{Finding}
 use Rattle.verdict.specs.Search.{Found, nothing, coefficient, point, Pass}
 use Rattle.subdivision.specs.Control.{Control}
 

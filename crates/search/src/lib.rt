@@ -48,13 +48,13 @@ fn ended(pass: &[i64; 8]) -> bool
 // So many cells more were opened.
 fn add_opened(n: u32, pass: &mut [i64; 8])
     requires { ⌜ Held n (now pass) ⌝ }
-    ensures { λ _. ⌜ ((p : Pass) → now (pass .entry) ≡ passWords p → now (pass .exit) ≡ passWords (record { count = p .count + n; found = p .found })) ⌝ }
+    ensures { λ _. ⌜ ((p : Pass) → now (pass .entry) ≡ passWords p → now (pass .exit) ≡ passWords (more n p)) ⌝ }
 {
     let count = pass[7];
     pass[7] = count + n as i64;
 }
 
-// A finding in place of what was found before.
+// A finding in place of what was found before; kind 0 and zeros, to forget it.
 fn note(kind: u32, a: u32, b: u32, c: u32, number: u32, value: i64, pass: &mut [i64; 8])
     ensures { λ _. ⌜ ((p : Pass) → now (pass .entry) ≡ passWords p → now (pass .exit) ≡ words kind 0 a b c number value (p .count)) ⌝ }
 {
@@ -126,8 +126,8 @@ fn quarter_at(half: &[i64; 27], k: u32, quarter: &mut [i64; 27])
     }
 }
 
-// How many children from k on are known to have no low coefficient: 4 where their half has none, 2 where their quarter has none; else
-// 0, and the quarter is there to make child k from.
+// How many children from k on are known to have no low coefficient: 4 where their half has none, 2 where their quarter has none. The half
+// is tested where child k is the first in it, and so is the quarter; 0 says nothing, and the quarter is there to make child k from.
 fn clear(g: &[i64; 27], k: u32, half: &mut [i64; 27], quarter: &mut [i64; 27]) -> u32
     requires { ⌜ Control (2 ^ 57 - 1) (now g) × (k < 8) × Ready (now g) k (now half) (now quarter) ⌝ }
     ensures { λ n. ⌜ Run (now (g .entry)) k n (now (half .exit)) (now (quarter .exit)) ⌝ }
@@ -149,7 +149,7 @@ fn clear(g: &[i64; 27], k: u32, half: &mut [i64; 27], quarter: &mut [i64; 27]) -
 
 // The due cells `left` levels below this one, in path order, after what was found before: a cell with a low coefficient is cut into
 // its eight children, by halves, and children that are known to have none are passed over.
-pub fn visit(g: &[i64; 27], a: u32, b: u32, c: u32, left: u32, pass: &mut [i64; 8])
+fn visit(g: &[i64; 27], a: u32, b: u32, c: u32, left: u32, pass: &mut [i64; 8])
     requires { ⌜ Room (now g) a b c left × Held (8 ^ left) (now pass) ⌝ }
     ensures { λ _. ⌜ ((p : Pass) → now (pass .entry) ≡ passWords p → now (pass .exit) ≡ passWords (visited left (cellOf a b c (now (g .entry))) p)) ⌝ }
 {
@@ -173,8 +173,8 @@ pub fn visit(g: &[i64; 27], a: u32, b: u32, c: u32, left: u32, pass: &mut [i64; 
         if ended(pass) {
             return;
         }
-        let clear = clear(g, k, &mut half, &mut quarter);
-        if clear == 0 {
+        let over = clear(g, k, &mut half, &mut quarter);
+        if over == 0 {
             let x = address::side(0, k);
             let y = address::side(1, k);
             let z = address::side(2, k);
@@ -182,8 +182,8 @@ pub fn visit(g: &[i64; 27], a: u32, b: u32, c: u32, left: u32, pass: &mut [i64; 
             visit(&child, 2 * a + x, 2 * b + y, 2 * c + z, left - 1, pass);
             k += 1;
         } else {
-            skip(clear, left - 1, pass);
-            k += clear;
+            skip(over, left - 1, pass);
+            k += over;
         }
     }
 }
@@ -270,7 +270,7 @@ fn with_cell(g: &[i64; 27], r: Extremes) -> Extremes
 }
 
 // The cells `left` levels below this one, after those seen before.
-pub fn survey(g: &[i64; 27], left: u32, r: Extremes) -> Extremes
+fn survey(g: &[i64; 27], left: u32, r: Extremes) -> Extremes
     requires { ⌜ Small (now g) left ⌝ }
     ensures { λ e. ⌜ ((s : Cell) → s .control ≡ now (g .entry) → extremesOf e ≡ extremesBelow left s (extremesOf r)) ⌝ }
 {

@@ -42,7 +42,7 @@ rowAt c x y z = getD c x (pos 0) ∷ getD c y (pos 0) ∷ getD c z (pos 0) ∷ [
 abbrev pub Agrees : ℕ → List ℤ → ℕ → List ℤ → Type 0
 Agrees d half n xs = (x : ℕ) → x < n → getD xs (inLine d x) (pos 0) ≡ getD half (inLine d x) (pos 0)
 
--- xs, as long as a half, holds the first j rows of that of c on side h; and c fits a cut
+-- xs holds the first j rows of the half of c on side h in direction d; and c is small enough to be cut
 pub record Holds (d h j : ℕ) (c xs : List ℤ) : Type 0 where
   pub control : Control (2 ^ 61 - 1) c
   pub sized : length xs ≡ 27

@@ -1,4 +1,4 @@
-// De Casteljau's cut of a cell's 27 coefficients into those of one of its two halves in one direction.
+// The 27 coefficients of one half of a cell, by de Casteljau's rule.
 // An inner crate, for the inspector's other crates. It offers `halve`, which writes the coefficients of the half, four times
 // larger, into lent space.
 ghost use mathlib.Core.Path.{_≡_};

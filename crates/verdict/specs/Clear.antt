@@ -1,5 +1,5 @@
--- Cells without a low coefficient: they come of a half without one, and a search passes over them.
-use mathlib.Core.Path.{_≡_, refl, sym, _∙_, ap, subst}
+-- Cells without a low coefficient: a child in a half without one has none, and a search passes over it.
+use mathlib.Core.Path.{_≡_, refl, _∙_, ap, subst}
 use mathlib.Core.Bool.{true, false, true≢false}
 use mathlib.Core.List.{List}
 use mathlib.Core.Option.{none, some}
@@ -17,7 +17,7 @@ use Rattle.expansion.specs.Numbering.{at-all}
 use Rattle.expansion.specs.Cut.{length-halve}
 use Rattle.expansion.specs.Combination.{halve-keeps}
 use Rattle.verdict.specs.Findings.{low-none, none-low}
-use Rattle.verdict.specs.Positive.{PositiveCell, positive-findings, findings-positive}
+use Rattle.verdict.specs.Positive.{positive-findings, findings-positive}
 use Rattle.verdict.specs.Stable.{not-found}
 use Rattle.verdict.specs.Commute.{child-by-halves}
 use Rattle.verdict.specs.Search.{Found, nothing, coefficient, point, Pass, pass, cornerValues, openCell, openAll, ended, visit, positive-values}
@@ -29,7 +29,7 @@ Clear c = All Positive c × (length c ≡ 27)
 pub unblocked-clear : (s : Cell) → length (s .control) ≡ 27 → blocked s ≡ false → Clear (s .control)
 unblocked-clear s h e = findings-positive s h (low-none (coefficientsOf s) (not-found (firstLow (coefficientsOf s)) e))
 
-pub halve-clear : (d h : ℕ) (c : List ℤ) → Clear c → Clear (halve d h c)
+halve-clear : (d h : ℕ) (c : List ℤ) → Clear c → Clear (halve d h c)
 halve-clear d h c p = (all-map (AtLeast 4) Positive (λ v q. le-trans (leZ-yes tt) q) (halve d h c) (halve-keeps AtLeast (record { sums = le-add; multiples = le-scale }) 1 d h c (at-all Positive c (p .1) (p .0))), length-halve d h c)
   where
     AtLeast : ℕ → ℤ → Type 0
@@ -61,7 +61,7 @@ module _ (c : List ℤ) (k : ℕ) where
 abbrev pub more : ℕ → Pass → Pass
 more n r = record { count = r .count + n; found = r .found }
 
--- n cells, with m levels below them: how many of the last level are opened
+-- of n such cells with m levels below them: all are opened at the last level, else none
 abbrev pub openedClear : ℕ → ℕ → ℕ
 openedClear n zero = n
 openedClear n (suc m) = 0

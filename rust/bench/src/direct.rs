@@ -1,8 +1,8 @@
 //! The inspector as one would write it in Rust for speed: volumes and
 //! coefficients by direct formulas, and a recursive search by de Casteljau's
-//! rule that cuts no cube further than it must.
+//! rule that cuts only cubes with a coefficient not above 0.
 //!
-//! Beside it the same with what the library's search does more (`SPARE`): the
+//! Beside it the same with what the library's search does besides (`SPARE`): the
 //! children in a half without a low coefficient are passed over.
 
 use crate::mesh::{
@@ -155,8 +155,7 @@ impl Pass {
         if all_positive(net) {
             return Ok(());
         }
-        // zeta, then eta, then xi: children 1 to 4 come of the lower half, and
-        // nothing is cut that a low corner makes needless
+        // zeta, then eta, then xi: children 1 to 4 come of the lower half
         for (half, z) in halves::<9>(net).iter().zip(0..) {
             if SPARE && all_positive(half) {
                 self.pass_over(4, left - 1);

@@ -1,4 +1,4 @@
-//! What both Rust versions share: the tests of a mesh and of its elements, and
+//! What the Rust versions share: the tests of a mesh and of its elements, and
 //! the eight words of a record.  An ordinary program, without proofs.
 
 pub type Record = [i64; 8];

@@ -1,7 +1,8 @@
 //! The product's own method in ordinary Rust: twenty volumes, the table of 540
 //! read in full, coefficients in the order of their numbers, one pass of the
 //! search for every level, children made by halves, and those of a half without
-//! a low coefficient passed over.
+//! a low coefficient passed over.  The table and the rows are looped over; in the
+//! library their numbers are written out.
 
 use crate::mesh::{
     determinant, difference, invalid, sum, undecided, valid, Answer, Record, CORNERS,
@@ -162,8 +163,7 @@ fn lowest(net: &Net) -> usize {
 }
 
 /// One half in a direction, four times larger.
-fn halve(net: &Net, direction: usize, side: u32) -> Net {
-    let mut out = [0; 27];
+fn halve(net: &Net, direction: usize, side: u32, out: &mut Net) {
     for &[x, y, z] in &ROWS[direction] {
         let (p, q, r) = (net[x], net[y], net[z]);
         let middle = p + 2 * q + r;
@@ -171,7 +171,6 @@ fn halve(net: &Net, direction: usize, side: u32) -> Net {
             if side == 1 { [middle, 2 * (q + r), 4 * r] } else { [4 * p, 2 * (p + q), middle] };
         [out[x], out[y], out[z]] = half;
     }
-    out
 }
 
 /// What a pass has found.
@@ -218,12 +217,12 @@ impl Pass {
         if lowest(net) == 0 {
             return;
         }
-        let (mut half, mut quarter) = ([0; 27], [0; 27]);
+        let (mut half, mut quarter, mut child) = ([0; 27], [0; 27], [0; 27]);
         let mut k = 0;
         while k < 8 && !matches!(self.found, Found::Corner { .. }) {
             let place = CORNERS[k];
             if k % 4 == 0 {
-                half = halve(net, 2, place[2]);
+                halve(net, 2, place[2], &mut half);
                 if lowest(&half) == 0 {
                     self.skip(4, left - 1);
                     k += 4;
@@ -231,14 +230,14 @@ impl Pass {
                 }
             }
             if k % 2 == 0 {
-                quarter = halve(&half, 1, place[1]);
+                halve(&half, 1, place[1], &mut quarter);
                 if lowest(&quarter) == 0 {
                     self.skip(2, left - 1);
                     k += 2;
                     continue;
                 }
             }
-            let child = halve(&quarter, 0, place[0]);
+            halve(&quarter, 0, place[0], &mut child);
             let at = [0, 1, 2].map(|axis| 2 * cube[axis] + place[axis]);
             self.visit(&child, at, left - 1);
             k += 1;

@@ -10,7 +10,7 @@ use Rattle.definitions.specs.Mesh.{pointsOf, faultOf}
 use Rattle.verdict.specs.Elements.{element-fault, element-points}
 use Rattle.control.specs.Range.{InRange}
 use Rattle.mesh.specs.Meaning.{elementOf}
-use Rattle.mesh.specs.Elements.{whole-element, read-within, length-points}
+use Rattle.mesh.specs.Elements.{whole-element, points-gathered, read-within, length-points}
 use borrow.Author.Needs.{needs}
 use Rattle.inspector.proofs.element.Statement.{statement}
 use Rattle.inspector.proofs.element.Tie as tie
@@ -21,12 +21,13 @@ fault-requires c κs = search needs
 enum-told : tie.Need-enum-told
 enum-told c = search needs
 
--- nothing is at fault where the element is whole
-whole : (c : tie.After-enum-told) → elementOf (c .before .before .fault .result) ≡ none
-whole c = ap elementOf (c .enum-told .given .1)
-
+-- nothing is at fault where the element is whole, and its points are gathered
 no-fault : (c : tie.After-enum-told) → faultOf base (now (c .before .before .before .before .before .args .coordinates)) (now (c .before .before .before .before .before .args .ix)) ≡ none
-no-fault c = sym (c .before .before .fault .ensures .0) ∙ whole c
+no-fault c = sym (c .before .before .fault .ensures .0) ∙ ap elementOf (c .enum-told .given .1)
+
+gathered : (c : tie.After-enum-told) → c .before .before .fault .last .1 .1 .0 ≡ pointsOf (now (c .before .before .before .before .before .args .coordinates)) (now (c .before .before .before .before .before .args .ix))
+gathered c = let s = c .before .before .before .before .before in let coordinates = now (s .args .coordinates) in let ix = now (s .args .ix) in
+    c .before .before .fault .ensures .1 ∙ sym (points-gathered coordinates ix _ (whole-element base coordinates ix (no-fault c) .named))
 
 points-record-requires : tie.Need-points-record-requires
 points-record-requires c κs =
@@ -34,7 +35,7 @@ points-record-requires c κs =
     let s = e .before .before .before .before .before in
     let coordinates = now (s .args .coordinates) in
     let ix = now (s .args .ix) in (
-      subst (InRange (base .range)) (sym (e .before .before .fault .ensures .1 (whole e))) (record { small = read-within base (pointsOf coordinates ix) (whole-element base coordinates ix (no-fault e) .points) (length-points coordinates ix) }),
+      subst (InRange (base .range)) (sym (gathered e)) (record { small = read-within base (pointsOf coordinates ix) (whole-element base coordinates ix (no-fault e) .points) (length-points coordinates ix) }),
       s .pre .1,
     )
 
@@ -54,7 +55,7 @@ returns : tie.Need-returns
 returns c =
     let e = c .before .before in
     let s = e .before .before .before .before .before in
-    c .points-record .ensures ∙ ap (λ (xs : List ℤ). recordOf xs (s .args .depth)) (e .before .before .fault .ensures .1 (whole e)) ∙ sym (element-points base (now (s .args .coordinates)) (now (s .args .ix)) (s .args .depth) (no-fault e))
+    c .points-record .ensures ∙ ap (λ (xs : List ℤ). recordOf xs (s .args .depth)) (gathered e) ∙ sym (element-points base (now (s .args .coordinates)) (now (s .args .ix)) (s .args .depth) (no-fault e))
 
 returns-2 : tie.Need-returns-2
 returns-2 c =

@@ -6,7 +6,7 @@ use borrow.Author.Needs.{needs}
 use Rattle.definitions.specs.Limits.{base}
 use Rattle.definitions.specs.Mesh.{outOfRange}
 use Rattle.mesh.specs.Meaning.{firstOf}
-use Rattle.mesh.specs.Elements.{never, missing-below, missing-none, fault-missing, fault-outside, fault-none}
+use Rattle.mesh.specs.Elements.{missing-below, missing-none, points-kept, points-gathered, fault-missing, fault-outside, fault-none}
 use Rattle.mesh.proofs.fault.Statement.{statement}
 use Rattle.mesh.proofs.fault.Tie as tie
 
@@ -42,7 +42,8 @@ shared-slice-read-index c = omega (arith, found-below (c .before .before))
 returns : tie.Need-returns
 returns c =
     let found = c .before .before in
-    (sym (fault-missing base _ _ _ (sym (found .before .before .missing-index .ensures) ∙ ap firstOf (found .missing .given .1))), λ e. never e)
+    let missing = sym (found .before .before .missing-index .ensures) ∙ ap firstOf (found .missing .given .1) in
+    (sym (fault-missing base _ _ _ missing), points-kept _ _ _ _ missing)
 
 enum-told : tie.Need-enum-told
 enum-told c = search needs
@@ -60,12 +61,13 @@ add-axis c = search needs
 returns-2 : tie.Need-returns-2
 returns-2 c =
     let searched = c .before .before .before in
-    let gathered = searched .before .before in (
+    let gathered = searched .before .before in
+    let named = sym (gathered .before .before .before .before .missing-index .ensures) ∙ ap firstOf (gathered .before .before .enum-told .given .1) in (
       sym
           (fault-outside base _ _ _
-          (sym (gathered .before .before .before .before .missing-index .ensures) ∙ ap firstOf (gathered .before .before .enum-told .given .1))
+          named
           (ap (outOfRange base) (sym (gathered .gather .ensures)) ∙ sym (searched .out-of-range .ensures) ∙ ap firstOf (c .before .outside .given .1))),
-      λ e. never e,
+      gathered .gather .ensures ∙ points-gathered _ _ _ named,
     )
 
 enum-told-2 : tie.Need-enum-told-2
@@ -75,12 +77,13 @@ enum-told-2 c = search needs
 returns-3 : tie.Need-returns-3
 returns-3 c =
     let searched = c .before .before in
-    let gathered = searched .before .before in (
+    let gathered = searched .before .before in
+    let named = sym (gathered .before .before .before .before .missing-index .ensures) ∙ ap firstOf (gathered .before .before .enum-told .given .1) in (
       sym
           (fault-none base _ _
-          (sym (gathered .before .before .before .before .missing-index .ensures) ∙ ap firstOf (gathered .before .before .enum-told .given .1))
+          named
           (ap (outOfRange base) (sym (gathered .gather .ensures)) ∙ sym (searched .out-of-range .ensures) ∙ ap firstOf (c .enum-told2 .given .1))),
-      λ e. gathered .gather .ensures,
+      gathered .gather .ensures ∙ points-gathered _ _ _ named,
     )
 
 pub fault-spec : {M : Type 1} → statement M

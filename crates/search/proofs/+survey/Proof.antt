@@ -8,6 +8,7 @@ use borrow.Author.Needs.{needs}
 use Rattle.definitions.specs.Jacobian.{side}
 use Rattle.definitions.specs.Subdivision.{halve, Cell, child}
 use Rattle.expansion.specs.Cut.{length-halve}
+use Rattle.verdict.specs.Clear.{quarterOf, childControl}
 use Rattle.verdict.specs.Extremes.{extremes}
 use Rattle.subdivision.specs.Control.{Control}
 use Rattle.search.specs.Children.{Ready, ready-first, run-none, child-made, cut-control, cut-half, cut-quarter, cut-small, child-small}
@@ -54,28 +55,39 @@ survey-returns t c s h = let start = c .before .before in
 survey-loop-holds : (t : ℕ) → survey-lts.Need-loop-holds (known t) (survey-at t) survey.Post survey-Inv-loop survey-μ-loop
 survey-loop-holds t c = (zero-le, λ h. ready-first (now (c .before .args .g)) _ _ refl refl, refl, λ s h. refl)
 
+-- the cell is cut
+small-at : (t : ℕ) (c : survey-lts.Else1 (known t) (survey-at t) survey.Post survey-Inv-loop survey-μ-loop) → Control (2 ^ 57 - 1) (now (c .before .args .g))
+small-at t c = cut-small (now (c .before .args .g)) (c .before .args .left) (c .before .pre .1) (c .if1 .left)
+
+-- child k's quarter, and child k of it
+quarter-at : (t : ℕ) (c : survey-lts.After-quarter-at (known t) (survey-at t) survey.Post survey-Inv-loop survey-μ-loop) → c .quarter-at .last .1 .1 .0 ≡ quarterOf (now (c .before .before .before .before .before .before .before .before .args .g)) (c .before .before .before .before .before .before .loop .k)
+quarter-at t c = c .quarter-at .ensures ∙ ap (halve 1 (side 1 (c .before .before .before .before .before .before .loop .k))) (c .before .before .before .half-at .ensures)
+
 survey-half-at-requires : (t : ℕ) → survey-lts.Need-half-at-requires (known t) (survey-at t) survey.Post survey-Inv-loop survey-μ-loop
-survey-half-at-requires t c κs = let start = c .before .before .before .before in let g = now (start .args .g) in let k = c .before .before .loop .k in let w = cut-small g (start .args .left) (start .pre .1) (c .before .before .before .if1 .left) in let here = c .before .loop-test .taken in let ready = c .before .before .loop .inv .1 here in
-    ((cut-control g w k, here, ready .half-sized), ready .half-is)
+survey-half-at-requires t c κs = let s = c .before .before .before .before in let here = c .before .loop-test .taken in let ready = c .before .before .loop .inv .1 here in
+    ((cut-control (now (s .args .g)) (small-at t (c .before .before .before)), here, ready .half-sized), ready .half-is)
 
 survey-quarter-at-requires : (t : ℕ) → survey-lts.Need-quarter-at-requires (known t) (survey-at t) survey.Post survey-Inv-loop survey-μ-loop
-survey-quarter-at-requires t c κs = let start = c .before .before .before .before .before .before .before in let g = now (start .args .g) in let k = c .before .before .before .before .before .loop .k in let w = cut-small g (start .args .left) (start .pre .1) (c .before .before .before .before .before .before .if1 .left) in let here = c .before .before .before .before .loop-test .taken in let ready = c .before .before .before .before .before .loop .inv .1 here in let half = c .before .before .half-at .ensures in
-    ((subst (Control (2 ^ 61 - 1)) (sym half) (cut-half g w k), here, ready .quarter-sized), λ n. ready .quarter-is n ∙ sym (ap (halve 1 (side 1 k)) half))
+survey-quarter-at-requires t c κs = let s = c .before .before .before .before .before .before .before in let k = c .before .before .before .before .before .loop .k in let here = c .before .before .before .before .loop-test .taken in let ready = c .before .before .before .before .before .loop .inv .1 here in let half = c .before .before .half-at .ensures in
+    ((subst (Control (2 ^ 61 - 1)) (sym half) (cut-half (now (s .args .g)) (small-at t (c .before .before .before .before .before .before)) k), here, ready .quarter-sized), λ n. ready .quarter-is n ∙ sym (ap (halve 1 (side 1 k)) half))
 
 survey-side-requires : (t : ℕ) → survey-lts.Need-side-requires (known t) (survey-at t) survey.Post survey-Inv-loop survey-μ-loop
 survey-side-requires t c κs = tt
 
 survey-halve-requires : (t : ℕ) → survey-lts.Need-halve-requires (known t) (survey-at t) survey.Post survey-Inv-loop survey-μ-loop
-survey-halve-requires t c κs = let start = c .before .before .before .before .before .before .before .before .before .before .before in let g = now (start .args .g) in let k = c .before .before .before .before .before .before .before .before .before .loop .k in let w = cut-small g (start .args .left) (start .pre .1) (c .before .before .before .before .before .before .before .before .before .before .if1 .left) in let here = c .before .before .before .before .before .before .before .before .loop-test .taken in let half = c .before .before .before .before .before .before .half-at .ensures in let quarter = c .before .before .before .quarter-at .ensures ∙ ap (halve 1 (side 1 k)) half in
-    ((subst (Control (2 ^ 61 - 1)) (sym quarter) (cut-quarter g w k), omega arith, omega (arith, c .before .before .side .ensures .1)), c .before .before .before .before .before .before .before .before .before .loop .inv .2)
+survey-halve-requires t c κs = let s = c .before .before .before .before .before .before .before .before .before .before .before in
+    ((subst (Control (2 ^ 61 - 1)) (sym (quarter-at t (c .before .before .before))) (cut-quarter (now (s .args .g)) (small-at t (c .before .before .before .before .before .before .before .before .before .before)) (c .before .before .before .before .before .before .before .before .before .loop .k)), omega arith, omega (arith, c .before .before .side .ensures .1)), c .before .before .before .before .before .before .before .before .before .loop .inv .2)
+
+made-at : (t : ℕ) (c : survey-lts.After-child2 (known t) (survey-at t) survey.Post survey-Inv-loop survey-μ-loop) → c .before .halve .last .1 .1 .1 .0 ≡ childControl (now (c .before .before .before .before .before .before .before .before .before .before .before .before .before .args .g)) (c .before .before .before .before .before .before .before .before .before .before .before .loop .k)
+made-at t c = let quarter = c .before .before .before .before .before .quarter-at .last .1 .1 .0 in
+    child-made (now (c .before .before .before .before .before .before .before .before .before .before .before .before .before .args .g)) (c .before .before .before .before .before .before .before .before .before .before .before .loop .k) quarter _ (quarter-at t (c .before .before .before .before .before)) (c .before .halve .ensures ∙ ap (λ (h : ℕ). halve 0 h quarter) (c .before .before .before .before .side .ensures .0))
 
 survey-sub-survey : (t : ℕ) → survey-lts.Need-sub-survey (known t) (survey-at t) survey.Post survey-Inv-loop survey-μ-loop
 survey-sub-survey t c = omega (arith, c .before .before .before .before .before .before .before .before .before .before .before .before .if1 .left)
 
 survey-survey-requires : (t : ℕ) → survey-lts.Need-survey-requires (known t) (survey-at t) survey.Post survey-Inv-loop survey-μ-loop
-survey-survey-requires t c κs = let start = c .before .before .before .before .before .before .before .before .before .before .before .before .before in let g = now (start .args .g) in let k = c .before .before .before .before .before .before .before .before .before .before .before .loop .k in let w = cut-small g (start .args .left) (start .pre .1) (c .before .before .before .before .before .before .before .before .before .before .before .before .if1 .left) in let here = c .before .before .before .before .before .before .before .before .before .before .loop-test .taken in let half = c .before .before .before .before .before .before .before .before .half-at .ensures in let quarter = c .before .before .before .before .before .quarter-at .ensures ∙ ap (halve 1 (side 1 k)) half in
-    let made = child-made g k (c .before .before .before .before .before .quarter-at .last .1 .1 .0) _ quarter (c .before .halve .ensures ∙ ap (λ (h : ℕ). halve 0 h (c .before .before .before .before .before .quarter-at .last .1 .1 .0)) (c .before .before .before .before .side .ensures .0)) in
-    (omega (arith, start .pre .0, c .before .before .before .before .before .before .before .before .before .before .before .before .if1 .left), child-small g (start .args .left) k _ (start .pre .1) (c .before .before .before .before .before .before .before .before .before .before .before .before .if1 .left) made)
+survey-survey-requires t c κs = let s = c .before .before .before .before .before .before .before .before .before .before .before .before .before in let some = c .before .before .before .before .before .before .before .before .before .before .before .before .if1 .left in
+    (omega (arith, s .pre .0, some), child-small (now (s .args .g)) (s .args .left) (c .before .before .before .before .before .before .before .before .before .before .before .loop .k) _ (s .pre .1) some (made-at t c))
 
 survey-add-k : (t : ℕ) → survey-lts.Need-add-k (known t) (survey-at t) survey.Post survey-Inv-loop survey-μ-loop
 survey-add-k t c = search needs
@@ -84,14 +96,12 @@ survey-loop-less : (t : ℕ) → survey-lts.Need-loop-less (known t) (survey-at 
 survey-loop-less t c = search needs
 
 survey-loop-again : (t : ℕ) → survey-lts.Need-loop-again (known t) (survey-at t) survey.Post survey-Inv-loop survey-μ-loop
-survey-loop-again t c = let start = c .before .before .before .before .before .before .before .before .before .before .before .before .before .before in let g = now (start .args .g) in let k = c .before .before .before .before .before .before .before .before .before .before .before .before .loop .k in let w = cut-small g (start .args .left) (start .pre .1) (c .before .before .before .before .before .before .before .before .before .before .before .before .before .if1 .left) in let here = c .before .before .before .before .before .before .before .before .before .before .before .loop-test .taken in let half = c .before .before .before .before .before .before .before .before .before .half-at .ensures in let quarter = c .before .before .before .before .before .before .quarter-at .ensures ∙ ap (halve 1 (side 1 k)) half in
-    let made = child-made g k (c .before .before .before .before .before .before .quarter-at .last .1 .1 .0) _ quarter (c .before .before .halve .ensures ∙ ap (λ (h : ℕ). halve 0 h (c .before .before .before .before .before .before .quarter-at .last .1 .1 .0)) (c .before .before .before .before .before .side .ensures .0)) in
-    let left = start .args .left in let r = extremesOf (start .args .r) in (
-      omega arith,
-      λ h. run-none g k here _ _ half quarter .next h,
-      ap length (c .before .before .halve .ensures) ∙ length-halve 0 (c .before .before .before .before .before .side .result) (c .before .before .before .before .before .before .quarter-at .last .1 .1 .0),
-      λ s h. c .survey .ensures (child s k) (child-of s k g _ h made) ∙ ap (extremes (left - 1) (child s k)) (c .before .before .before .before .before .before .before .before .before .before .before .before .loop .inv .3 s h) ∙ sym (extremes-next s r left k),
-    )
+survey-loop-again t c = let start = c .before .before .before .before .before .before .before .before .before .before .before .before .before .before in let g = now (start .args .g) in let left = start .args .left in let k = c .before .before .before .before .before .before .before .before .before .before .before .before .loop .k in (
+  omega arith,
+  λ h. run-none g k (c .before .before .before .before .before .before .before .before .before .before .before .loop-test .taken) _ _ (c .before .before .before .before .before .before .before .before .before .half-at .ensures) (quarter-at t (c .before .before .before .before .before .before)) .next h,
+  ap length (c .before .before .halve .ensures) ∙ length-halve 0 (c .before .before .before .before .before .side .result) (c .before .before .before .before .before .before .quarter-at .last .1 .1 .0),
+  λ s h. c .survey .ensures (child s k) (child-of s k g _ h (made-at t (c .before))) ∙ ap (extremes (left - 1) (child s k)) (c .before .before .before .before .before .before .before .before .before .before .before .before .loop .inv .3 s h) ∙ sym (extremes-next s (extremesOf (start .args .r)) left k),
+)
 
 survey-returns-2 : (t : ℕ) → survey-lts.Need-returns-2 (known t) (survey-at t) survey.Post survey-Inv-loop survey-μ-loop
 survey-returns-2 t c s h = let start = c .before .before .before in let l = c .before .loop in let last : l .k ≡ 8 = omega arith in l .inv .3 s h ∙ extremes-last s (extremesOf (start .args .r)) (start .args .left) (l .k) last (c .before .before .if1 .left)

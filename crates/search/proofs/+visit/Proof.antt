@@ -1,6 +1,6 @@
 -- `search::visit` meets its contract: the branches are those of the recursion; in the loop, the first k children have been visited. Assumes nothing.
 use mathlib.Core.Path.{_≡_, refl, sym, _∙_, ap, subst}
-use Prim.Native.Nat.{ℕ, _+_, _-_, _^_, _≤_, _<_, zero-le}
+use Prim.Native.Nat.{ℕ, _+_, _*_, _-_, _^_, _≤_, _<_, zero-le}
 use native.Mathlib.Omega.{arith}
 use lib.ListN.{length}
 use denote.Ref.{now}
@@ -8,6 +8,7 @@ use borrow.Author.Needs.{needs}
 use Rattle.definitions.specs.Subdivision.{halve, Cell}
 use Rattle.expansion.specs.Cut.{length-halve}
 use Rattle.verdict.specs.Search.{Pass, visit as visited}
+use Rattle.verdict.specs.Clear.{childControl}
 use Rattle.subdivision.specs.Control.{Control}
 use Rattle.search.specs.Meaning.{cellOf, passWords, Room}
 use Rattle.search.specs.Children.{Ready, Run, ready-first, after-some, child-made, cut-quarter, cut-small, grid-doubled, child-room, child-cell}
@@ -102,37 +103,48 @@ visit-halve-requires : (t : ℕ) → visit-lts.Need-halve-requires (known t) (vi
 visit-halve-requires t c κs = let s = c .before .before .before .before .before .before .before .before .before .before .before .before .before .before .before .before .before .before .before .before in let g = now (s .args .g) in let k = c .before .before .before .before .before .before .before .before .before .before .before .before .before .loop .k in
     ((subst (Control (2 ^ 61 - 1)) (sym (c .before .before .before .before .before .before .clear .ensures .quarter-is (c .before .before .before .before .before .if5 .taken))) (cut-quarter g (cut-small g (s .args .left) (s .pre .1 .0 .small) (c .before .before .before .before .before .before .before .before .before .before .before .before .before .before .if3 .left)) k), omega arith, omega (arith, c .before .before .before .before .side .ensures .1)), c .before .before .before .before .before .before .before .before .before .before .before .before .before .loop .inv .2)
 
+-- child k is made of its quarter
+made-at : (t : ℕ) (c : visit-lts.After-child2 (known t) (visit-at t) visit.Post visit-Inv-loop visit-μ-loop) → c .before .halve .last .1 .1 .1 .0 ≡ childControl (now (c .before .before .before .before .before .before .before .before .before .before .before .before .before .before .before .before .before .before .before .before .before .before .args .g)) (c .before .before .before .before .before .before .before .before .before .before .before .before .before .before .before .loop .k)
+made-at t c = let quarter = c .before .before .before .before .before .before .before .before .clear .last .1 .1 .1 .0 in
+    child-made (now (c .before .before .before .before .before .before .before .before .before .before .before .before .before .before .before .before .before .before .before .before .before .before .args .g)) (c .before .before .before .before .before .before .before .before .before .before .before .before .before .before .before .loop .k) quarter _ (c .before .before .before .before .before .before .before .before .clear .ensures .quarter-is (c .before .before .before .before .before .before .before .if5 .taken)) (c .before .halve .ensures ∙ ap (λ (h : ℕ). halve 0 h quarter) (c .before .before .before .before .before .before .side .ensures .0))
+
+-- its grid numbers fit
+fits-at : (t : ℕ) (c : visit-lts.After-child2 (known t) (visit-at t) visit.Post visit-Inv-loop visit-μ-loop) → (2 * c .before .before .before .before .before .before .before .before .before .before .before .before .before .before .before .before .before .before .before .before .before .before .args .a + c .before .before .before .before .before .before .side .result < 2 ^ 32) × (2 * c .before .before .before .before .before .before .before .before .before .before .before .before .before .before .before .before .before .before .before .before .before .before .args .b + c .before .before .before .before .before .side2 .result < 2 ^ 32) × (2 * c .before .before .before .before .before .before .before .before .before .before .before .before .before .before .before .before .before .before .before .before .before .before .args .c + c .before .before .before .before .side3 .result < 2 ^ 32)
+fits-at t c = let s = c .before .before .before .before .before .before .before .before .before .before .before .before .before .before .before .before .before .before .before .before .before .before in let room = s .pre .1 .0 in let some = c .before .before .before .before .before .before .before .before .before .before .before .before .before .before .before .before .if3 .left in (
+  omega (arith, grid-doubled (s .args .a) (s .args .left) (room .a-grid) some, c .before .before .before .before .before .before .side .ensures .1),
+  omega (arith, grid-doubled (s .args .b) (s .args .left) (room .b-grid) some, c .before .before .before .before .before .side2 .ensures .1),
+  omega (arith, grid-doubled (s .args .c) (s .args .left) (room .c-grid) some, c .before .before .before .before .side3 .ensures .1),
+)
+
 visit-mul-visit : (t : ℕ) → visit-lts.Need-mul-visit (known t) (visit-at t) visit.Post visit-Inv-loop visit-μ-loop
-visit-mul-visit t c = let s = c .before .before .before .before .before .before .before .before .before .before .before .before .before .before .before .before .before .before .before .before .before .before in omega (arith, grid-doubled (s .args .a) (s .args .left) (s .pre .1 .0 .a-grid) (c .before .before .before .before .before .before .before .before .before .before .before .before .before .before .before .before .if3 .left), c .before .before .before .before .before .before .side .ensures .1)
+visit-mul-visit t c = omega (arith, fits-at t c .0)
 
 visit-add-visit : (t : ℕ) → visit-lts.Need-add-visit (known t) (visit-at t) visit.Post visit-Inv-loop visit-μ-loop
-visit-add-visit t c = let s = c .before .before .before .before .before .before .before .before .before .before .before .before .before .before .before .before .before .before .before .before .before .before in omega (arith, grid-doubled (s .args .a) (s .args .left) (s .pre .1 .0 .a-grid) (c .before .before .before .before .before .before .before .before .before .before .before .before .before .before .before .before .if3 .left), c .before .before .before .before .before .before .side .ensures .1)
+visit-add-visit t c = omega (arith, fits-at t c .0)
 
 visit-mul-visit-2 : (t : ℕ) → visit-lts.Need-mul-visit-2 (known t) (visit-at t) visit.Post visit-Inv-loop visit-μ-loop
-visit-mul-visit-2 t c = let s = c .before .before .before .before .before .before .before .before .before .before .before .before .before .before .before .before .before .before .before .before .before .before in omega (arith, grid-doubled (s .args .b) (s .args .left) (s .pre .1 .0 .b-grid) (c .before .before .before .before .before .before .before .before .before .before .before .before .before .before .before .before .if3 .left), c .before .before .before .before .before .side2 .ensures .1)
+visit-mul-visit-2 t c = omega (arith, fits-at t c .1)
 
 visit-add-visit-2 : (t : ℕ) → visit-lts.Need-add-visit-2 (known t) (visit-at t) visit.Post visit-Inv-loop visit-μ-loop
-visit-add-visit-2 t c = let s = c .before .before .before .before .before .before .before .before .before .before .before .before .before .before .before .before .before .before .before .before .before .before in omega (arith, grid-doubled (s .args .b) (s .args .left) (s .pre .1 .0 .b-grid) (c .before .before .before .before .before .before .before .before .before .before .before .before .before .before .before .before .if3 .left), c .before .before .before .before .before .side2 .ensures .1)
+visit-add-visit-2 t c = omega (arith, fits-at t c .1)
 
 visit-mul-visit-3 : (t : ℕ) → visit-lts.Need-mul-visit-3 (known t) (visit-at t) visit.Post visit-Inv-loop visit-μ-loop
-visit-mul-visit-3 t c = let s = c .before .before .before .before .before .before .before .before .before .before .before .before .before .before .before .before .before .before .before .before .before .before in omega (arith, grid-doubled (s .args .c) (s .args .left) (s .pre .1 .0 .c-grid) (c .before .before .before .before .before .before .before .before .before .before .before .before .before .before .before .before .if3 .left), c .before .before .before .before .side3 .ensures .1)
+visit-mul-visit-3 t c = omega (arith, fits-at t c .2)
 
 visit-add-visit-3 : (t : ℕ) → visit-lts.Need-add-visit-3 (known t) (visit-at t) visit.Post visit-Inv-loop visit-μ-loop
-visit-add-visit-3 t c = let s = c .before .before .before .before .before .before .before .before .before .before .before .before .before .before .before .before .before .before .before .before .before .before in omega (arith, grid-doubled (s .args .c) (s .args .left) (s .pre .1 .0 .c-grid) (c .before .before .before .before .before .before .before .before .before .before .before .before .before .before .before .before .if3 .left), c .before .before .before .before .side3 .ensures .1)
+visit-add-visit-3 t c = omega (arith, fits-at t c .2)
 
 visit-sub-visit : (t : ℕ) → visit-lts.Need-sub-visit (known t) (visit-at t) visit.Post visit-Inv-loop visit-μ-loop
 visit-sub-visit t c = omega (arith, c .before .before .before .before .before .before .before .before .before .before .before .before .before .before .before .before .if3 .left)
 
 visit-visit-requires : (t : ℕ) → visit-lts.Need-visit-requires (known t) (visit-at t) visit.Post visit-Inv-loop visit-μ-loop
-visit-visit-requires t c κs = let s = c .before .before .before .before .before .before .before .before .before .before .before .before .before .before .before .before .before .before .before .before .before .before .before in let g = now (s .args .g) in let left = s .args .left in let l = c .before .before .before .before .before .before .before .before .before .before .before .before .before .before .before .before .loop in let k = l .k in let some = c .before .before .before .before .before .before .before .before .before .before .before .before .before .before .before .before .before .if3 .left in let held = s .pre .1 .1 in
-    let quarter = c .before .before .before .before .before .before .before .before .before .clear .last .1 .1 .1 .0 in
-    let made = child-made g k quarter _ (c .before .before .before .before .before .before .before .before .before .clear .ensures .quarter-is (c .before .before .before .before .before .before .before .before .if5 .taken)) (c .before .before .halve .ensures ∙ ap (λ (h : ℕ). halve 0 h quarter) (c .before .before .before .before .before .before .before .side .ensures .0)) in (
-      omega (arith, s .pre .0, some),
-      (
-        child-room g (s .args .a) (s .args .b) (s .args .c) left k (c .before .before .before .before .before .before .before .side .result) (c .before .before .before .before .before .before .side2 .result) (c .before .before .before .before .before .side3 .result) _ made (c .before .before .before .before .before .before .before .side .ensures .0) (c .before .before .before .before .before .before .side2 .ensures .0) (c .before .before .before .before .before .side3 .ensures .0) (s .pre .1 .0) some,
-        next-held (cellOf (s .args .a) (s .args .b) (s .args .c) (now (s .args .g))) left some (now (s .args .pass)) held k (c .before .before .before .before .before .before .before .before .before .before .before .before .before .before .before .loop-test .taken) _ (l .inv .3 (held .pass) (held .is)),
-      ),
-    )
+visit-visit-requires t c κs = let s = c .before .before .before .before .before .before .before .before .before .before .before .before .before .before .before .before .before .before .before .before .before .before .before in let left = s .args .left in let l = c .before .before .before .before .before .before .before .before .before .before .before .before .before .before .before .before .loop in let some = c .before .before .before .before .before .before .before .before .before .before .before .before .before .before .before .before .before .if3 .left in let held = s .pre .1 .1 in (
+  omega (arith, s .pre .0, some),
+  (
+    child-room (now (s .args .g)) (s .args .a) (s .args .b) (s .args .c) (l .k) (c .before .before .before .before .before .before .before .side .result) (c .before .before .before .before .before .before .side2 .result) (c .before .before .before .before .before .side3 .result) _ (made-at t (c .before)) (c .before .before .before .before .before .before .before .side .ensures .0) (c .before .before .before .before .before .before .side2 .ensures .0) (c .before .before .before .before .before .side3 .ensures .0) left (s .pre .1 .0) some,
+    next-held (cellOf (s .args .a) (s .args .b) (s .args .c) (now (s .args .g))) left some (now (s .args .pass)) held (l .k) (c .before .before .before .before .before .before .before .before .before .before .before .before .before .before .before .loop-test .taken) _ (l .inv .3 (held .pass) (held .is)),
+  ),
+)
 
 visit-add-k : (t : ℕ) → visit-lts.Need-add-k (known t) (visit-at t) visit.Post visit-Inv-loop visit-μ-loop
 visit-add-k t c = search needs
@@ -141,16 +153,15 @@ visit-loop-less : (t : ℕ) → visit-lts.Need-loop-less (known t) (visit-at t) 
 visit-loop-less t c = search needs
 
 visit-loop-again : (t : ℕ) → visit-lts.Need-loop-again (known t) (visit-at t) visit.Post visit-Inv-loop visit-μ-loop
-visit-loop-again t c = let s = c .before .before .before .before .before .before .before .before .before .before .before .before .before .before .before .before .before .before .before .before .before .before .before .before in let g = now (s .args .g) in let left = s .args .left in let l = c .before .before .before .before .before .before .before .before .before .before .before .before .before .before .before .before .before .loop in let k = l .k in let cell = cellOf (s .args .a) (s .args .b) (s .args .c) (now (s .args .g)) in
+visit-loop-again t c = let s = c .before .before .before .before .before .before .before .before .before .before .before .before .before .before .before .before .before .before .before .before .before .before .before .before in let g = now (s .args .g) in let m = s .args .left - 1 in let l = c .before .before .before .before .before .before .before .before .before .before .before .before .before .before .before .before .before .loop in let k = l .k in let cell = cellOf (s .args .a) (s .args .b) (s .args .c) (now (s .args .g)) in
     let quarter = c .before .before .before .before .before .before .before .before .before .before .clear .last .1 .1 .1 .0 in
-    let made = child-made g k quarter _ (c .before .before .before .before .before .before .before .before .before .before .clear .ensures .quarter-is (c .before .before .before .before .before .before .before .before .before .if5 .taken)) (c .before .before .before .halve .ensures ∙ ap (λ (h : ℕ). halve 0 h quarter) (c .before .before .before .before .before .before .before .before .side .ensures .0)) in
     let run = subst (λ (n : ℕ). Run g k n (c .before .before .before .before .before .before .before .before .before .before .clear .last .1 .1 .0) quarter) (c .before .before .before .before .before .before .before .before .before .if5 .taken) (c .before .before .before .before .before .before .before .before .before .before .clear .ensures) in (
       omega arith,
       λ h. run .next h,
       ap length (c .before .before .before .halve .ensures) ∙ length-halve 0 (c .before .before .before .before .before .before .before .before .side .result) quarter,
       λ p e.
-          c .visit .ensures (over cell p (left - 1) k) (l .inv .3 p e)
-          ∙ ap passWords (ap (λ (q : Cell). visited (left - 1) q (over cell p (left - 1) k)) (child-cell g (s .args .a) (s .args .b) (s .args .c) left k (c .before .before .before .before .before .before .before .before .side .result) (c .before .before .before .before .before .before .before .side2 .result) (c .before .before .before .before .before .before .side3 .result) _ made (c .before .before .before .before .before .before .before .before .side .ensures .0) (c .before .before .before .before .before .before .before .side2 .ensures .0) (c .before .before .before .before .before .before .side3 .ensures .0)) ∙ sym (over-next cell p (left - 1) k)),
+          c .visit .ensures (over cell p m k) (l .inv .3 p e)
+          ∙ ap passWords (ap (λ (q : Cell). visited m q (over cell p m k)) (child-cell g (s .args .a) (s .args .b) (s .args .c) k (c .before .before .before .before .before .before .before .before .side .result) (c .before .before .before .before .before .before .before .side2 .result) (c .before .before .before .before .before .before .side3 .result) _ (made-at t (c .before .before)) (c .before .before .before .before .before .before .before .before .side .ensures .0) (c .before .before .before .before .before .before .before .side2 .ensures .0) (c .before .before .before .before .before .before .side3 .ensures .0)) ∙ sym (over-next cell p m k)),
     )
 
 visit-sub-skip : (t : ℕ) → visit-lts.Need-sub-skip (known t) (visit-at t) visit.Post visit-Inv-loop visit-μ-loop
@@ -168,7 +179,7 @@ visit-loop-less-2 t c = omega (arith, c .before .before .before .before .before 
 
 visit-loop-again-2 : (t : ℕ) → visit-lts.Need-loop-again-2 (known t) (visit-at t) visit.Post visit-Inv-loop visit-μ-loop
 visit-loop-again-2 t c = let s = c .before .before .before .before .before .before .before .before .before .before .before .before .before .before .before .before .before in let g = now (s .args .g) in let left = s .args .left in let l = c .before .before .before .before .before .before .before .before .before .before .loop in let k = l .k in let cell = cellOf (s .args .a) (s .args .b) (s .args .c) (now (s .args .g)) in
-    let run = c .before .before .before .clear .ensures in let n = c .before .before .before .clear .result in let e = after-some g k n (c .before .before .if5 .left) in (
+    let run = c .before .before .before .clear .ensures in let n = c .before .before .before .clear .result in let e = after-some k n (c .before .before .if5 .left) in (
       run .end,
       λ h. subst (λ (m : ℕ). Ready g m (c .before .before .before .clear .last .1 .1 .0) (c .before .before .before .clear .last .1 .1 .1 .0)) e (run .next (subst (λ (m : ℕ). m < 8) (sym e) h)),
       l .inv .2,

@@ -1,8 +1,6 @@
 -- `search::clear` meets its contract: by the lowest number of the half, and of the quarter. Assumes nothing.
 use mathlib.Core.Path.{sym, _∙_, ap, subst}
-use mathlib.Core.List.{List}
 use Prim.Native.Nat.{_-_, _^_}
-use lib.IntN.{ℤ}
 use denote.Ref.{now}
 use borrow.Author.Needs.{needs}
 use Rattle.definitions.specs.Jacobian.{side}
@@ -13,7 +11,7 @@ use Rattle.search.proofs.clear.Statement.{statement}
 use Rattle.search.proofs.clear.Tie as tie
 
 half-at-requires : tie.Need-half-at-requires
-half-at-requires c κs = let s = c .before in let ready = s .pre .2 in ((cut-control (now (s .args .g)) (s .pre .0) (s .args .k), s .pre .1, ready .half-sized), ready .half-is)
+half-at-requires c κs = let s = c .before in let ready = s .pre .2 in ((cut-control (now (s .args .g)) (s .pre .0), s .pre .1, ready .half-sized), ready .half-is)
 
 lowest-requires : tie.Need-lowest-requires
 lowest-requires c κs = search needs

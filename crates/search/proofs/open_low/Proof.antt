@@ -1,20 +1,17 @@
 -- `search::open_low` meets its contract: the lowest number is a corner's or another's, and of the others the first one stays. Assumes nothing.
-use mathlib.Core.Path.{_≡_, refl, sym, _∙_, ap, ap₂}
-use mathlib.Core.Bool.{false}
-use mathlib.Core.List.{List}
-use Prim.Native.Nat.{ℕ, suc, _+_, _-_, _<_, _≤_}
+use mathlib.Core.Path.{_≡_, sym, _∙_, ap}
+use Prim.Native.Nat.{ℕ, suc, _+_, _-_}
 use native.Mathlib.Omega.{arith}
 use lib.ListN.{getD}
-use lib.IntN.{ℤ, pos}
+use lib.IntN.{pos}
 use mir.Syntax.{w64}
 use mir.ValLaws.{toZ-ofZ}
 use denote.Ref.{now}
 use borrow.Author.Needs.{needs}
 use Rattle.definitions.specs.Record.{words}
-use Rattle.definitions.specs.Verdict.{Finding}
-use Rattle.verdict.specs.Search.{Found, Pass}
+use Rattle.verdict.specs.Search.{Found}
 use Rattle.search.specs.Meaning.{cellOf, passWords, foundWords}
-use Rattle.search.specs.Lowest.{atCorner, atCell, withCoefficient, opened-corner, opened-coefficient}
+use Rattle.search.specs.Lowest.{atCell, withCoefficient, opened-corner, opened-coefficient}
 use Rattle.search.proofs.Passes.{nothing-word, stays-word}
 use Rattle.search.proofs.open_low.Statement.{statement}
 use Rattle.search.proofs.open_low.Tie as tie

@@ -11,7 +11,7 @@ note-requires c κs = search needs
 
 visit-requires : tie.Need-visit-requires
 visit-requires c κs = let s = c .before .before .before in let g = now (s .args .g) in let k = points-control g (s .pre .0) in let held = s .pre .2 in
-    (whole-room g k (s .args .level) (s .pre .1), whole-held g k (s .args .level) _ (held .pass .count) (c .before .note .ensures (held .pass) (held .is)) (held .room))
+    (whole-room g k (s .args .level) (s .pre .1), whole-held (s .args .level) (held .pass .count) _ (c .before .note .ensures (held .pass) (held .is)) (held .room))
 
 returns : tie.Need-returns
 returns c p e = c .visit .ensures (fresh (p .count)) (c .before .before .note .ensures p e)
