@@ -118,9 +118,9 @@ fn halve_zeta(h: u32, c: &[i64; 27], out: &mut [i64; 27])
     half_row(h, c, 2, 8, 2, 14, 6, out);
 }
 
-// The half of c on side h in direction d, four times larger, into out.
+// The half of c on side h, 0 or else 1, in direction d, four times larger, into out.
 pub fn halve(d: u32, h: u32, c: &[i64; 27], out: &mut [i64; 27])
-    requires { ⌜ Control (2 ^ 61 - 1) (now c) × (d < 3) × (h < 2) ⌝ }
+    requires { ⌜ Control (2 ^ 61 - 1) (now c) × (d < 3) ⌝ }
     requires { ⌜ length (now out) ≡ 27 ⌝ }
     ensures { λ _. ⌜ now (out .exit) ≡ halve d h (now (c .entry)) ⌝ }
 {

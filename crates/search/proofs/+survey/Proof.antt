@@ -76,7 +76,7 @@ survey-side-requires t c κs = tt
 
 survey-halve-requires : (t : ℕ) → survey-lts.Need-halve-requires (known t) (survey-at t) survey.Post survey-Inv-loop survey-μ-loop
 survey-halve-requires t c κs = let s = c .before .before .before .before .before .before .before .before .before .before .before in
-    ((subst (Control (2 ^ 61 - 1)) (sym (quarter-at t (c .before .before .before))) (cut-quarter (now (s .args .g)) (small-at t (c .before .before .before .before .before .before .before .before .before .before)) (c .before .before .before .before .before .before .before .before .before .loop .k)), omega arith, omega (arith, c .before .before .side .ensures .1)), c .before .before .before .before .before .before .before .before .before .loop .inv .2)
+    ((subst (Control (2 ^ 61 - 1)) (sym (quarter-at t (c .before .before .before))) (cut-quarter (now (s .args .g)) (small-at t (c .before .before .before .before .before .before .before .before .before .before)) (c .before .before .before .before .before .before .before .before .before .loop .k)), omega arith), c .before .before .before .before .before .before .before .before .before .loop .inv .2)
 
 made-at : (t : ℕ) (c : survey-lts.After-child2 (known t) (survey-at t) survey.Post survey-Inv-loop survey-μ-loop) → c .before .halve .last .1 .1 .1 .0 ≡ childControl (now (c .before .before .before .before .before .before .before .before .before .before .before .before .before .args .g)) (c .before .before .before .before .before .before .before .before .before .before .before .loop .k)
 made-at t c = let quarter = c .before .before .before .before .before .quarter-at .last .1 .1 .0 in

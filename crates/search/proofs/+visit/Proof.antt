@@ -101,7 +101,7 @@ visit-side-requires-3 t c κs = tt
 
 visit-halve-requires : (t : ℕ) → visit-lts.Need-halve-requires (known t) (visit-at t) visit.Post visit-Inv-loop visit-μ-loop
 visit-halve-requires t c κs = let s = c .before .before .before .before .before .before .before .before .before .before .before .before .before .before .before .before .before .before .before .before in let g = now (s .args .g) in let k = c .before .before .before .before .before .before .before .before .before .before .before .before .before .loop .k in
-    ((subst (Control (2 ^ 61 - 1)) (sym (c .before .before .before .before .before .before .clear .ensures .quarter-is (c .before .before .before .before .before .if5 .taken))) (cut-quarter g (cut-small g (s .args .left) (s .pre .1 .0 .small) (c .before .before .before .before .before .before .before .before .before .before .before .before .before .before .if3 .left)) k), omega arith, omega (arith, c .before .before .before .before .side .ensures .1)), c .before .before .before .before .before .before .before .before .before .before .before .before .before .loop .inv .2)
+    ((subst (Control (2 ^ 61 - 1)) (sym (c .before .before .before .before .before .before .clear .ensures .quarter-is (c .before .before .before .before .before .if5 .taken))) (cut-quarter g (cut-small g (s .args .left) (s .pre .1 .0 .small) (c .before .before .before .before .before .before .before .before .before .before .before .before .before .before .if3 .left)) k), omega arith), c .before .before .before .before .before .before .before .before .before .before .before .before .before .loop .inv .2)
 
 -- child k is made of its quarter
 made-at : (t : ℕ) (c : visit-lts.After-child2 (known t) (visit-at t) visit.Post visit-Inv-loop visit-μ-loop) → c .before .halve .last .1 .1 .1 .0 ≡ childControl (now (c .before .before .before .before .before .before .before .before .before .before .before .before .before .before .before .before .before .before .before .before .before .before .args .g)) (c .before .before .before .before .before .before .before .before .before .before .before .before .before .before .before .loop .k)
