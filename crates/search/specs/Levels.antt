@@ -15,11 +15,11 @@ use Rattle.verdict.specs.Search.{Found, nothing, coefficient, point, Pass, pass
 use Rattle.verdict.specs.Opened.{most}
 use Rattle.verdict.specs.Passes.{Before, before-first, pass-point, pass-nothing, pass-last, pass-on}
 use Rattle.subdivision.specs.Control.{Control}
-use Rattle.search.specs.Meaning.{passWords, Held, size, Grid, Room}
+use Rattle.search.specs.Meaning.{cellOf, passWords, Held, size, Grid, Room}
 use Rattle.search.specs.Visit.{visit-count}
 
 abbrev pub wholeOf : List ℤ → Cell
-wholeOf g = record { a = 0; b = 0; c = 0; control = g }
+wholeOf g = cellOf 0 0 0 g
 
 -- nothing found yet, n cells opened
 abbrev pub fresh : ℕ → Pass

@@ -13,7 +13,7 @@ ghost use Rattle.definitions.specs.Record.{words, verdictWords, recordOf};
 ghost use Rattle.definitions.specs.Subdivision.{halve, Cell};
 ghost use Rattle.verdict.specs.Search.{Pass, ended as hasEnded, openCell, visit as visited};
 ghost use Rattle.verdict.specs.Extremes.{extremes as extremesBelow};
-ghost use Rattle.verdict.specs.Clear.{halfOf, more, openedClear};
+ghost use Rattle.verdict.specs.Clear.{more, openedClear};
 ghost use Rattle.subdivision.specs.Control.{Control};
 ghost use Rattle.search.specs.Meaning.{cellOf, lowest as lowestOf, passWords, Held, Small, Room};
 ghost use Rattle.search.specs.Children.{Ready, Run};
@@ -104,25 +104,14 @@ fn skip(n: u32, left: u32, pass: &mut [i64; 8])
     }
 }
 
-// The half in ζ that child k, 0 to 7, lies in: made for the first of four, and kept.
-fn half_at(g: &[i64; 27], k: u32, half: &mut [i64; 27])
-    requires { ⌜ Control (2 ^ 61 - 1) (now g) × (k < 8) × (length (now half) ≡ 27) ⌝ }
-    requires { ⌜ ((k % 4 ≡ 0 → ⊥) → now half ≡ halfOf (now g) k) ⌝ }
-    ensures { λ _. ⌜ now (half .exit) ≡ halfOf (now (g .entry)) k ⌝ }
+// The half of c in direction d that child k, 0 to 7, lies in: made where child k is the first in it, else there already.
+fn half_at(d: u32, first: bool, c: &[i64; 27], k: u32, out: &mut [i64; 27])
+    requires { ⌜ Control (2 ^ 61 - 1) (now c) × (d < 3) × (length (now out) ≡ 27) ⌝ }
+    requires { ⌜ (first ≡ false → now out ≡ halve d (side d k) (now c)) ⌝ }
+    ensures { λ _. ⌜ now (out .exit) ≡ halve d (side d k) (now (c .entry)) ⌝ }
 {
-    if k % 4 == 0 {
-        subdivision::halve(2, address::side(2, k), g, half);
-    }
-}
-
-// Of that half the half in η that child k lies in: made for the first of two, and kept.
-fn quarter_at(half: &[i64; 27], k: u32, quarter: &mut [i64; 27])
-    requires { ⌜ Control (2 ^ 61 - 1) (now half) × (k < 8) × (length (now quarter) ≡ 27) ⌝ }
-    requires { ⌜ ((k % 2 ≡ 0 → ⊥) → now quarter ≡ halve 1 (side 1 k) (now half)) ⌝ }
-    ensures { λ _. ⌜ now (quarter .exit) ≡ halve 1 (side 1 k) (now (half .entry)) ⌝ }
-{
-    if k % 2 == 0 {
-        subdivision::halve(1, address::side(1, k), half, quarter);
+    if first {
+        subdivision::halve(d, address::side(d, k), c, out);
     }
 }
 
@@ -132,13 +121,13 @@ fn clear(g: &[i64; 27], k: u32, half: &mut [i64; 27], quarter: &mut [i64; 27]) -
     requires { ⌜ Control (2 ^ 57 - 1) (now g) × (k < 8) × Ready (now g) k (now half) (now quarter) ⌝ }
     ensures { λ n. ⌜ Run (now (g .entry)) k n (now (half .exit)) (now (quarter .exit)) ⌝ }
 {
-    half_at(g, k, half);
+    half_at(2, k % 4 == 0, g, k, half);
     if k % 4 == 0 {
         if lowest(half) == 0 {
             return 4;
         }
     }
-    quarter_at(half, k, quarter);
+    half_at(1, k % 2 == 0, half, k, quarter);
     if k % 2 == 0 {
         if lowest(quarter) == 0 {
             return 2;
@@ -282,8 +271,8 @@ fn survey(g: &[i64; 27], left: u32, r: Extremes) -> Extremes
     let mut child = [0i64; 27];
     let mut e = r;
     for k in 0..8 {
-        half_at(g, k, &mut half);
-        quarter_at(&half, k, &mut quarter);
+        half_at(2, k % 4 == 0, g, k, &mut half);
+        half_at(1, k % 2 == 0, &half, k, &mut quarter);
         subdivision::halve(0, address::side(0, k), &quarter, &mut child);
         e = survey(&child, left - 1, e);
     }

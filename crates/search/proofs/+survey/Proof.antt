@@ -5,6 +5,7 @@ use native.Mathlib.Omega.{arith}
 use lib.ListN.{length}
 use denote.Ref.{now}
 use borrow.Author.Needs.{needs}
+use borrow.Author.Tests.{eqb-false}
 use Rattle.definitions.specs.Jacobian.{side}
 use Rattle.definitions.specs.Subdivision.{halve, Cell, child}
 use Rattle.expansion.specs.Cut.{length-halve}
@@ -21,7 +22,6 @@ use Rattle.search.proofs.+survey.Lts-survey as survey-lts
 use Rattle.address.proofs.side.Reads as side-reads
 use Rattle.search.proofs.half_at.Reads as half-at-reads
 use Rattle.subdivision.proofs.halve.Reads as halve-reads
-use Rattle.search.proofs.quarter_at.Reads as quarter-at-reads
 use Rattle.search.proofs.with_cell.Reads as with-cell-reads
 use Rattle.search.proofs.+survey.{statement}
 use Rattle.search.proofs.+survey.Tie.{close}
@@ -43,7 +43,7 @@ survey-μ-loop g left half₀ quarter₀ child₀ e₀ k₀ half quarter child e
 
 -- what the calls ask and tell, in the order of the code
 abbrev known : ℕ → survey-lts.Claims
-known t = (with-cell-reads.Asked, with-cell-reads.Learnt, half-at-reads.Asked, half-at-reads.Learnt, quarter-at-reads.Asked, quarter-at-reads.Learnt, side-reads.Asked, side-reads.Learnt, halve-reads.Asked, halve-reads.Learnt, survey-below t, survey.Post)
+known t = (with-cell-reads.Asked, with-cell-reads.Learnt, half-at-reads.Asked, half-at-reads.Learnt, side-reads.Asked, side-reads.Learnt, halve-reads.Asked, halve-reads.Learnt, survey-below t, survey.Post)
 
 survey-with-cell-requires : (t : ℕ) → survey-lts.Need-with-cell-requires (known t) (survey-at t) survey.Post survey-Inv-loop survey-μ-loop
 survey-with-cell-requires t c κs = c .before .pre .1 .control .sized
@@ -60,16 +60,16 @@ small-at : (t : ℕ) (c : survey-lts.Else1 (known t) (survey-at t) survey.Post s
 small-at t c = cut-small (now (c .before .args .g)) (c .before .args .left) (c .before .pre .1) (c .if1 .left)
 
 -- child k's quarter, and child k of it
-quarter-at : (t : ℕ) (c : survey-lts.After-quarter-at (known t) (survey-at t) survey.Post survey-Inv-loop survey-μ-loop) → c .quarter-at .last .1 .1 .0 ≡ quarterOf (now (c .before .before .before .before .before .before .before .before .args .g)) (c .before .before .before .before .before .before .loop .k)
-quarter-at t c = c .quarter-at .ensures ∙ ap (halve 1 (side 1 (c .before .before .before .before .before .before .loop .k))) (c .before .before .before .half-at .ensures)
+quarter-at : (t : ℕ) (c : survey-lts.After-half-at2 (known t) (survey-at t) survey.Post survey-Inv-loop survey-μ-loop) → c .half-at2 .last .1 .1 .1 .1 .0 ≡ quarterOf (now (c .before .before .before .before .before .before .before .before .args .g)) (c .before .before .before .before .before .before .loop .k)
+quarter-at t c = c .half-at2 .ensures ∙ ap (halve 1 (side 1 (c .before .before .before .before .before .before .loop .k))) (c .before .before .before .half-at .ensures)
 
 survey-half-at-requires : (t : ℕ) → survey-lts.Need-half-at-requires (known t) (survey-at t) survey.Post survey-Inv-loop survey-μ-loop
 survey-half-at-requires t c κs = let s = c .before .before .before .before in let here = c .before .loop-test .taken in let ready = c .before .before .loop .inv .1 here in
-    ((cut-control (now (s .args .g)) (small-at t (c .before .before .before)), here, ready .half-sized), ready .half-is)
+    ((cut-control (now (s .args .g)) (small-at t (c .before .before .before)), omega arith, ready .half-sized), λ e. ready .half-is (eqb-false _ 0 e))
 
-survey-quarter-at-requires : (t : ℕ) → survey-lts.Need-quarter-at-requires (known t) (survey-at t) survey.Post survey-Inv-loop survey-μ-loop
-survey-quarter-at-requires t c κs = let s = c .before .before .before .before .before .before .before in let k = c .before .before .before .before .before .loop .k in let here = c .before .before .before .before .loop-test .taken in let ready = c .before .before .before .before .before .loop .inv .1 here in let half = c .before .before .half-at .ensures in
-    ((subst (Control (2 ^ 61 - 1)) (sym half) (cut-half (now (s .args .g)) (small-at t (c .before .before .before .before .before .before)) k), here, ready .quarter-sized), λ n. ready .quarter-is n ∙ sym (ap (halve 1 (side 1 k)) half))
+survey-half-at-requires-2 : (t : ℕ) → survey-lts.Need-half-at-requires-2 (known t) (survey-at t) survey.Post survey-Inv-loop survey-μ-loop
+survey-half-at-requires-2 t c κs = let s = c .before .before .before .before .before .before .before in let k = c .before .before .before .before .before .loop .k in let here = c .before .before .before .before .loop-test .taken in let ready = c .before .before .before .before .before .loop .inv .1 here in let half = c .before .before .half-at .ensures in
+    ((subst (Control (2 ^ 61 - 1)) (sym half) (cut-half (now (s .args .g)) (small-at t (c .before .before .before .before .before .before)) k), omega arith, ready .quarter-sized), λ e. ready .quarter-is (eqb-false _ 0 e) ∙ sym (ap (halve 1 (side 1 k)) half))
 
 survey-side-requires : (t : ℕ) → survey-lts.Need-side-requires (known t) (survey-at t) survey.Post survey-Inv-loop survey-μ-loop
 survey-side-requires t c κs = tt
@@ -79,7 +79,7 @@ survey-halve-requires t c κs = let s = c .before .before .before .before .befor
     ((subst (Control (2 ^ 61 - 1)) (sym (quarter-at t (c .before .before .before))) (cut-quarter (now (s .args .g)) (small-at t (c .before .before .before .before .before .before .before .before .before .before)) (c .before .before .before .before .before .before .before .before .before .loop .k)), omega arith), c .before .before .before .before .before .before .before .before .before .loop .inv .2)
 
 made-at : (t : ℕ) (c : survey-lts.After-child2 (known t) (survey-at t) survey.Post survey-Inv-loop survey-μ-loop) → c .before .halve .last .1 .1 .1 .0 ≡ childControl (now (c .before .before .before .before .before .before .before .before .before .before .before .before .before .args .g)) (c .before .before .before .before .before .before .before .before .before .before .before .loop .k)
-made-at t c = let quarter = c .before .before .before .before .before .quarter-at .last .1 .1 .0 in
+made-at t c = let quarter = c .before .before .before .before .before .half-at2 .last .1 .1 .1 .1 .0 in
     child-made (now (c .before .before .before .before .before .before .before .before .before .before .before .before .before .args .g)) (c .before .before .before .before .before .before .before .before .before .before .before .loop .k) quarter _ (quarter-at t (c .before .before .before .before .before)) (c .before .halve .ensures ∙ ap (λ (h : ℕ). halve 0 h quarter) (c .before .before .before .before .side .ensures .0))
 
 survey-sub-survey : (t : ℕ) → survey-lts.Need-sub-survey (known t) (survey-at t) survey.Post survey-Inv-loop survey-μ-loop
@@ -99,7 +99,7 @@ survey-loop-again : (t : ℕ) → survey-lts.Need-loop-again (known t) (survey-a
 survey-loop-again t c = let start = c .before .before .before .before .before .before .before .before .before .before .before .before .before .before in let g = now (start .args .g) in let left = start .args .left in let k = c .before .before .before .before .before .before .before .before .before .before .before .before .loop .k in (
   omega arith,
   λ h. run-none g k (c .before .before .before .before .before .before .before .before .before .before .before .loop-test .taken) _ _ (c .before .before .before .before .before .before .before .before .before .half-at .ensures) (quarter-at t (c .before .before .before .before .before .before)) .next h,
-  ap length (c .before .before .halve .ensures) ∙ length-halve 0 (c .before .before .before .before .before .side .result) (c .before .before .before .before .before .before .quarter-at .last .1 .1 .0),
+  ap length (c .before .before .halve .ensures) ∙ length-halve 0 (c .before .before .before .before .before .side .result) (c .before .before .before .before .before .before .half-at2 .last .1 .1 .1 .1 .0),
   λ s h. c .survey .ensures (child s k) (child-of s k g _ h (made-at t (c .before))) ∙ ap (extremes (left - 1) (child s k)) (c .before .before .before .before .before .before .before .before .before .before .before .before .loop .inv .3 s h) ∙ sym (extremes-next s (extremesOf (start .args .r)) left k),
 )
 
@@ -116,7 +116,7 @@ pub +survey-spec : {M : Type 1} → statement M
     (survey-returns t)
     (survey-loop-holds t)
     (survey-half-at-requires t)
-    (survey-quarter-at-requires t)
+    (survey-half-at-requires-2 t)
     (survey-side-requires t)
     (survey-halve-requires t)
     (survey-sub-survey t)

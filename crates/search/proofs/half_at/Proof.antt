@@ -14,7 +14,7 @@ halve-requires : tie.Need-halve-requires
 halve-requires c κs = search needs
 
 returns : tie.Need-returns
-returns c = c .halve .ensures ∙ ap (λ (h : ℕ). halve 2 h (now (c .before .before .before .before .args .g))) (c .before .before .side .ensures .0)
+returns c = let s = c .before .before .before .before in c .halve .ensures ∙ ap (λ (h : ℕ). halve (s .args .d) h (now (s .args .c))) (c .before .before .side .ensures .0)
 
 returns-2 : tie.Need-returns-2
 returns-2 c = c .before .pre .1 (c .if1 .left)
