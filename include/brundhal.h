@@ -2,25 +2,28 @@
  *
  * The library decides in whole numbers, without rounding, whether the Jacobian
  * determinant of trilinear hexahedra is positive. Its code is proved against
- * definitions that lay down every answer (crates/definitions).
+ * definitions that lay down every answer (crates/definitions). It also reads the
+ * lot files in which meshes arrive.
  * Link with libbrundhal.a; no other library is needed but the C library's
  * memory functions (memset and the like).
  *
  * What a caller has to know:
  *
- * - Every length is a number of ELEMENTS of the array (int32_t, uint32_t,
- *   int64_t), never of bytes.
+ * - Every length is a number of ELEMENTS of the array: of bytes only for an array
+ *   of uint8_t, never for one of int32_t, uint32_t or int64_t.
  * - Nothing has to be checked before a call. Wrong depths, wrong lengths,
- *   indices that name no node and coordinates outside the range are answered
- *   with their number, as below.
+ *   indices that name no node, coordinates outside the range and files of any
+ *   bytes are answered with their number, as below.
  * - All memory is the caller's. The library keeps no pointer after a call,
  *   allocates nothing, holds no state and may be called from several threads
- *   at once. Only the report space is written.
+ *   at once. Only lent space is written: the report of an inspection, the nodes
+ *   and elements of a lot. An answer with a number other than 0 leaves it
+ *   untouched.
  * - What the library cannot see is the caller's part: each pointer must be
  *   valid for the length that stands beside it and aligned for its type, and
- *   the report space must not overlap the two runs. A null pointer is not
- *   allowed, not even with a length of 0: pass the address of anything of the
- *   right type then.
+ *   lent space must not overlap anything else that is handed in. A null pointer
+ *   is not allowed, not even with a length of 0: pass the address of anything of
+ *   the right type then.
  */
 #ifndef BRUNDHAL_H
 #define BRUNDHAL_H
@@ -107,6 +110,51 @@ typedef struct {
 BrundhalMove brundhal_child(BrundhalAddress q, uint32_t n);
 BrundhalMove brundhal_corner(BrundhalAddress q, uint32_t n);
 BrundhalMove brundhal_parent(BrundhalAddress q);
+
+/* The longest lot file, and the lengths of lent space in which every lot fits:
+ * 4,095 nodes are the most that a file holds, and 1,000 elements are allowed. */
+#define BRUNDHAL_LOT_BYTES 65536
+#define BRUNDHAL_LOT_NODE_WORDS (3 * 4095)
+#define BRUNDHAL_LOT_ELEMENT_WORDS (8 * 1000)
+
+/* The answer of reading a lot file. number is 0 for an accepted lot, with its
+ * numbers of nodes and of elements; its label is a part of the caller's own file,
+ * label_len bytes from file + label_at, with no 0 byte at its end. A refused lot
+ * has all else 0, and its number is
+ *   20  the file is longer than 65,536 bytes; tested first
+ * then, record by record, the first of
+ *   21  fewer than four bytes are left where a record is due
+ *   22  the mark is none of LB, ND, HX, EN
+ *   24  the mark is out of place
+ *   23  the length is not one of the mark
+ *   21  the body is cut short
+ *   25  a label byte is not in 32..126
+ *   26  it is a 1,001st element
+ * and after the last record
+ *   24  bytes follow it, whatever they are
+ *   27  the lent space is too small for the nodes or for the elements */
+typedef struct {
+    uint32_t number;
+    uint32_t nodes, elements;
+    uint32_t label_at, label_len;
+} BrundhalLot;
+
+/* Reads a lot file: records of a two-byte mark, a two-byte length and a body,
+ * every number low byte first.
+ *
+ *   mark  length    body                                  how many, in this order
+ *   LB    0 to 32   the label, bytes from 32 to 126       1
+ *   ND    12        a node: x, y, z, signed 32-bit        any number
+ *   HX    32        an element: eight unsigned 32-bit     0 to 1,000
+ *   EN    0         none                                  1, and nothing after it
+ *
+ *   nodes     lent space of at least three words a node, x, y, z of each in turn
+ *   elements  lent space of at least eight words an element
+ * as brundhal_inspect takes them. Both are written only if the lot is accepted,
+ * and only as far as its nodes and elements go. */
+BrundhalLot brundhal_read_lot(const uint8_t *file, size_t file_len,
+                              int32_t *nodes, size_t nodes_len,
+                              uint32_t *elements, size_t elements_len);
 
 #ifdef __cplusplus
 }

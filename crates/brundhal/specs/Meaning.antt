@@ -1,16 +1,20 @@
 -- The answers as plain numbers, numbered as document 01 numbers them, and what a caller's plain numbers stand for.
-use mathlib.Core.Path.{_≡_, ap}
+use mathlib.Core.Path.{_≡_, refl, ap}
 use mathlib.Core.Bool.{Bool, true, false}
+use mathlib.Core.List.{List, [], _∷_, _++_}
 use borrow.Author.Tests.{eq-eqb, ne-eqb}
 use Prim.Native.Nat.{ℕ, zero, suc}
 use lib.Dec.{eqb}
+use lib.ListN.{length}
 use lib.IntN.{ℤ}
 use Rattle.definitions.specs.Address.{Address, Move}
 use Rattle.definitions.specs.Mesh.{Counts, Inspection, accepted, inspectionNumber, inspectionCounts, Stamp, sound, faulty, stampOf, Bounds, boundsNumber, boundsLow, boundsHigh}
 use Rattle.brundhal.specs.declared.BrundhalInspection.{BrundhalInspection}
 use Rattle.brundhal.specs.declared.BrundhalBounds.{BrundhalBounds}
 use Rattle.brundhal.specs.declared.BrundhalAddress.{BrundhalAddress}
+use Rattle.lotfile.specs.Reading.{Reading, handedOut, readingNumber, readingNumbers}
 use Rattle.brundhal.specs.declared.BrundhalMove.{BrundhalMove}
+use Rattle.brundhal.specs.declared.BrundhalLot.{BrundhalLot}
 
 -- an inspection's number and counts
 pub record Numbers : Type 0 where
@@ -59,3 +63,18 @@ bit (suc n) = true
 
 abbrev pub moveHeld : BrundhalMove → Move
 moveHeld r = record { made = bit (r .made); address = record { level = r .level; a = r .a; b = r .b; c = r .c } }
+
+-- a lot's numbers, and the place and length of its label in the file: it stands behind the four bytes of its mark and length
+abbrev pub labelStart : ℕ → ℕ
+labelStart zero = 4
+labelStart (suc n) = 0
+
+pub other-start : (n : ℕ) → (n ≡ 0 → ⊥) → labelStart n ≡ 0
+other-start zero h = absurd (h refl)
+other-start (suc n) h = refl
+
+abbrev pub lotNumbers : Reading → List ℕ
+lotNumbers r = readingNumbers r ++ (labelStart (readingNumber r) ∷ length (handedOut r .label) ∷ [])
+
+abbrev pub lotHeld : BrundhalLot → List ℕ
+lotHeld r = r .number ∷ r .nodes ∷ r .elements ∷ r .start ∷ r .len ∷ []

@@ -2,13 +2,15 @@
 // Nothing has to be checked first. A slice passes as a pointer and a length in elements; a null or an overlapping pointer is the
 // caller's fault, and so is a length that is not that of the memory behind it.
 ghost use mathlib.Core.Path.{_≡_};
-ghost use lib.ListN.{length};
+ghost use lib.ListN.{length, take, drop};
 ghost use Rattle.definitions.specs.Limits.{base};
 ghost use Rattle.definitions.specs.Address.{childAddress, cornerAddress, parentAddress};
 ghost use Rattle.definitions.specs.Mesh.{inspection, reportAfter, boundsOf};
 ghost use Rattle.address.specs.Meaning.{addressOf, moveOf};
 ghost use Rattle.inspector.specs.Meaning.{inspectionHeld, stampHeld, boundsHeld};
-ghost use Rattle.brundhal.specs.Meaning.{numbersOf, numbersHeld, pairOf, pairHeld, stampNumber, stampFor, addressHeld, moveHeld};
+ghost use Rattle.lotfile.specs.Format.{lotFile};
+ghost use Rattle.lotfile.specs.Reading.{reading, handedOut, laidOver};
+ghost use Rattle.brundhal.specs.Meaning.{labelStart, lotNumbers, lotHeld, numbersOf, numbersHeld, pairOf, pairHeld, stampNumber, stampFor, addressHeld, moveHeld};
 use address::Address;
 use address::Moved;
 use inspector::Bounds;
@@ -51,6 +53,17 @@ pub struct BrundhalMove {
     pub a: u32,
     pub b: u32,
     pub c: u32,
+}
+
+// The number that answers the reading of a lot file, 0 or 20 to 27, the numbers of nodes and elements, and where in the file the label
+// stands: its first byte's place and its length.
+#[repr(C)]
+pub struct BrundhalLot {
+    pub number: u32,
+    pub nodes: u32,
+    pub elements: u32,
+    pub start: u32,
+    pub len: u32,
 }
 
 // A refused mesh: its number, and counts 0.
@@ -206,4 +219,40 @@ pub extern "C" fn brundhal_parent(q: BrundhalAddress) -> BrundhalMove
     ensures { λ r. ⌜ moveHeld r ≡ parentAddress (base .depth) (addressHeld q) ⌝ }
 {
     moved(address(q).parent())
+}
+
+// Where the label of a lot with this number starts.
+fn label_start(number: u32) -> u32
+    ensures { λ r. ⌜ r ≡ labelStart number ⌝ }
+{
+    if number == 0 {
+        return 4;
+    }
+    0
+}
+
+// Reads a lot file: `lot::read`. C has no part of a slice, so the label is told by its place in the file and its length.
+#[no_mangle]
+pub extern "C" fn brundhal_read_lot(
+    file: &[u8],
+    nodes: &mut [i32],
+    elements: &mut [u32],
+) -> BrundhalLot
+    ensures { λ r. ⌜ lotHeld r ≡ lotNumbers (reading lotFile (now (file .entry)) (length (now (nodes .entry))) (length (now (elements .entry)))) ⌝ }
+    ensures { λ r. ⌜ take (r .len) (drop (r .start) (now (file .entry))) ≡ handedOut (reading lotFile (now (file .entry)) (length (now (nodes .entry))) (length (now (elements .entry)))) .label ⌝ }
+    ensures { λ r. ⌜ now (nodes .exit) ≡ laidOver (handedOut (reading lotFile (now (file .entry)) (length (now (nodes .entry))) (length (now (elements .entry)))) .nodes) (now (nodes .entry)) ⌝ }
+    ensures { λ r. ⌜ now (elements .exit) ≡ laidOver (handedOut (reading lotFile (now (file .entry)) (length (now (nodes .entry))) (length (now (elements .entry)))) .elements) (now (elements .entry)) ⌝ }
+{
+    let mut answer = [0u32; 3];
+    let label = lot::read(file, nodes, elements, &mut answer);
+    let number = answer[0];
+    let n = answer[1];
+    let e = answer[2];
+    BrundhalLot {
+        number: number,
+        nodes: n,
+        elements: e,
+        start: label_start(number),
+        len: label.len() as u32,
+    }
 }

@@ -1,11 +1,13 @@
 //! Time an element: the built library, an ordinary Rust version with direct
 //! formulas, that version with the library's sparing of clear halves, and the
-//! library's own method in ordinary Rust.
+//! library's own method in ordinary Rust.  Time a lot file: the library, and two
+//! ordinary Rust readers.
 //!
 //! Prints, for lots of 900 elements at depth 3, the best of several rounds in
 //! microseconds an element and the ratios.  The four reports of each lot must
-//! be the same, word for word.  Use: `bench`, or `bench ROUNDS`, or `bench
-//! ROUNDS NAME` for the lots whose name begins with NAME.
+//! be the same, word for word; so must what the three readers give of each file.
+//! Use: `bench`, or `bench ROUNDS`, or `bench ROUNDS NAME` for the lots and
+//! files whose name begins with NAME.
 
 #![deny(warnings)]
 // The tests of lengths read as the rules do.
@@ -14,6 +16,8 @@
 mod direct;
 mod lots;
 mod mesh;
+mod reader;
+mod reading;
 mod same_method;
 
 use lots::{lots, Lot, DEPTH, ELEMENTS};
@@ -133,5 +137,5 @@ fn main() -> Result<(), String> {
             library / same
         );
     }
-    Ok(())
+    reading::print(rounds, &name)
 }

@@ -2,9 +2,9 @@
 //!
 //! The library decides, in whole numbers and without rounding, whether the
 //! Jacobian determinant of trilinear hexahedra is positive.  Its code is proved
-//! against the definitions of document 01; this crate adds the declarations
-//! and nothing of its own.  Nothing has to be checked before a call: every
-//! argument is taken, and every answer is laid down in 01.
+//! against the definitions of documents 01 and 02; this crate adds the
+//! declarations and nothing of its own.  Nothing has to be checked before a call:
+//! every argument is taken, and every answer is laid down there.
 
 #![deny(warnings)]
 #![deny(unsafe_op_in_unsafe_fn)]
@@ -12,6 +12,14 @@
 /// Words in a record, and report words an element: 01, "The report space is
 /// signed 64-bit, eight words per element."
 pub const RECORD_WORDS: usize = 8;
+
+/// The longest lot file.  02: "one file of at most 65,536 bytes."
+pub const LOT_BYTES: usize = 65_536;
+
+/// Lent space in which every lot fits: 4,095 nodes are the most that a file
+/// holds, three words each, and 1,000 elements are allowed, eight words each.
+pub const LOT_NODE_WORDS: usize = 3 * 4095;
+pub const LOT_ELEMENT_WORDS: usize = 8 * 1000;
 
 /// The answer of an inspection.  01: "An accepted mesh answers 0 with four
 /// counts: valid, invalid, undecided, refused."
@@ -65,6 +73,20 @@ pub enum Stamp {
     Faulty,
 }
 
+/// The answer of reading a lot file.
+#[derive(Clone, Copy, Debug, PartialEq, Eq)]
+pub struct Lot<'a> {
+    /// 0, or 20 to 27 for a lot that is refused; both counts are then 0 and the
+    /// label is empty.
+    pub number: u32,
+    /// The number of nodes, and of elements.
+    pub nodes: u32,
+    pub elements: u32,
+    /// 02: "the label comes back as the bytes in the file themselves, not as a
+    /// copy."
+    pub label: &'a [u8],
+}
+
 /// What the library exports, as include/brundhal.h declares it.
 mod raw {
     use super::{Address, Bounds, Inspection};
@@ -76,6 +98,15 @@ mod raw {
         pub a: u32,
         pub b: u32,
         pub c: u32,
+    }
+
+    #[repr(C)]
+    pub struct Lot {
+        pub number: u32,
+        pub nodes: u32,
+        pub elements: u32,
+        pub label_at: u32,
+        pub label_len: u32,
     }
 
     extern "C" {
@@ -93,6 +124,14 @@ mod raw {
         pub fn brundhal_child(q: Address, n: u32) -> Move;
         pub fn brundhal_corner(q: Address, n: u32) -> Move;
         pub fn brundhal_parent(q: Address) -> Move;
+        pub fn brundhal_read_lot(
+            file: *const u8,
+            file_len: usize,
+            nodes: *mut i32,
+            nodes_len: usize,
+            elements: *mut u32,
+            elements_len: usize,
+        ) -> Lot;
     }
 }
 
@@ -132,6 +171,28 @@ pub fn stamp(answer: Inspection) -> Stamp {
         1 => Stamp::Faulty,
         other => unreachable!("the library's stamp is 0 or 1, not {other}"),
     }
+}
+
+/// Reads a lot file into lent space: three words a node, eight an element, both
+/// ready for `inspect`.
+///
+/// An accepted lot has its nodes and elements written from the front, and the
+/// space past them untouched; a refused one has nothing written.
+pub fn read_lot<'a>(file: &'a [u8], nodes: &mut [i32], elements: &mut [u32]) -> Lot<'a> {
+    // Three slices that are borrowed for the call, with their own lengths: the
+    // library reads the first and writes the other two, each inside its length.
+    let raw::Lot { number, nodes, elements, label_at, label_len } = unsafe {
+        raw::brundhal_read_lot(
+            file.as_ptr(),
+            file.len(),
+            nodes.as_mut_ptr(),
+            nodes.len(),
+            elements.as_mut_ptr(),
+            elements.len(),
+        )
+    };
+    let label = &file[label_at as usize..][..label_len as usize];
+    Lot { number, nodes, elements, label }
 }
 
 impl Address {
@@ -180,6 +241,7 @@ mod tests {
         assert_eq!((offset_of!(Bounds, low), offset_of!(Bounds, high)), (8, 16));
         assert_eq!((size_of::<Address>(), align_of::<Address>()), (16, 4));
         assert_eq!((size_of::<raw::Move>(), align_of::<raw::Move>()), (20, 4));
+        assert_eq!((size_of::<raw::Lot>(), align_of::<raw::Lot>()), (20, 4));
     }
 
     #[test]
@@ -189,6 +251,8 @@ mod tests {
         assert_eq!(inspect(&[0], &[], 3, &mut []).number, 2);
         assert_eq!(inspect(&[], &[0], 3, &mut []).number, 3);
         assert_eq!(inspect(&[], &[], 3, &mut [0]).number, 4);
+        assert_eq!(read_lot(&[], &mut [], &mut []).number, 21);
+        assert_eq!(read_lot(b"LB\0\0EN\0\0", &mut [], &mut []).number, 0);
     }
 
     #[test]
@@ -215,5 +279,43 @@ mod tests {
         assert_eq!(stamp(Inspection { invalid: 1, ..Inspection::default() }), Stamp::Faulty);
         assert_eq!(stamp(Inspection { refused: 1, ..Inspection::default() }), Stamp::Faulty);
         assert_eq!(stamp(Inspection { number: 4, ..Inspection::default() }), Stamp::Faulty);
+    }
+
+    /// A label, one node (1, -2, 3) and no elements.
+    const LOT: &[u8] = b"LB\x02\0P7ND\x0C\0\x01\0\0\0\xFE\xFF\xFF\xFF\x03\0\0\0EN\0\0";
+
+    #[test]
+    fn lot_with_space_to_spare() {
+        let (mut nodes, mut elements) = ([7; 5], [7; 8]);
+        let lot = read_lot(LOT, &mut nodes, &mut elements);
+        assert_eq!(lot, Lot { number: 0, nodes: 1, elements: 0, label: b"P7" });
+        assert_eq!(lot.label.as_ptr_range(), LOT[4..6].as_ptr_range());
+        assert_eq!((nodes, elements), ([1, -2, 3, 7, 7], [7; 8]));
+    }
+
+    #[test]
+    fn refused_lots_write_nothing() {
+        let cut_short = &LOT[..LOT.len() - 1];
+        let mut nodes = [7; 5];
+        for (file, space, number) in [(LOT, 2, 27), (cut_short, 5, 21)] {
+            let lot = read_lot(file, &mut nodes[..space], &mut []);
+            assert_eq!(lot, Lot { number, nodes: 0, elements: 0, label: b"" });
+            assert_eq!(nodes, [7; 5]);
+        }
+    }
+
+    /// No good lot is refused for want of space in space of these lengths.
+    #[test]
+    fn space_for_every_lot() {
+        let node = &LOT[6..22];
+        let element = [b"HX\x20\0", &[0; 32][..]].concat();
+        let file = |nodes: usize, elements: usize| {
+            [b"LB\0\0", &node.repeat(nodes)[..], &element.repeat(elements), b"EN\0\0"].concat()
+        };
+        let (mut nodes, mut elements) = ([0; LOT_NODE_WORDS], [0; LOT_ELEMENT_WORDS]);
+        let mut read = |file: &[u8]| read_lot(file, &mut nodes, &mut elements).number;
+        assert_eq!((read(&file(4095, 0)), read(&file(4096, 0))), (0, 20));
+        assert_eq!((read(&file(0, 1000)), read(&file(0, 1001))), (0, 26));
+        assert_eq!(file(4095, 0).len(), LOT_BYTES - 8);
     }
 }

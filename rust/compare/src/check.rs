@@ -1,7 +1,7 @@
 //! One question to both programs: their answers word by word, and what 01 says
 //! over depths.
 
-use crate::program::{Answer, AtDepth, Program, PATTERN};
+use crate::program::{Answer, AtDepth, Lot, Program, PATTERN};
 use crate::question::Question;
 use second::specimens::Shaker;
 use std::fmt;
@@ -30,10 +30,10 @@ impl fmt::Display for Difference {
 /// What both programs answered: words, with their names.
 struct Words {
     words: Vec<i64>,
-    name: fn(usize) -> String,
+    name: Box<dyn Fn(usize) -> String>,
 }
 
-/// Words on both sides of the lent report space that must stay as they were.
+/// Words on both sides of lent space that must stay as they were.
 const FENCE: usize = 8;
 
 /// Different in each word, so that a word moved from elsewhere shows too.
@@ -72,7 +72,7 @@ fn inspected_words(seen: &Inspected) -> Words {
     let mut words: Vec<i64> = seen.answer.iter().copied().map(i64::from).collect();
     words.push(i64::from(seen.stamp));
     words.extend(&seen.space);
-    Words { words, name: inspected_name }
+    Words { words, name: Box::new(inspected_name) }
 }
 
 const ANSWER: [&str; 6] = ["number", "valid", "invalid", "undecided", "refused", "stamp"];
@@ -97,7 +97,7 @@ fn over_depths_words(seen: &[AtDepth]) -> Words {
         words.extend(at.record);
         words.extend([i64::from(at.bounds.0), at.bounds.1, at.bounds.2]);
     }
-    Words { words, name: over_depths_name }
+    Words { words, name: Box::new(over_depths_name) }
 }
 
 fn over_depths_name(place: usize) -> String {
@@ -115,29 +115,78 @@ fn over_depths_name(place: usize) -> String {
 fn bounds_words((number, low, high): (u32, i64, i64)) -> Words {
     Words {
         words: vec![i64::from(number), low, high],
-        name: |place| ["number", "low", "high"][place].to_string(),
+        name: Box::new(|place| ["number", "low", "high"][place].to_string()),
     }
 }
 
 fn move_words(answer: [u32; 5]) -> Words {
     Words {
         words: answer.iter().copied().map(i64::from).collect(),
-        name: |place| ["made", "level", "a", "b", "c"][place].to_string(),
+        name: Box::new(|place| ["made", "level", "a", "b", "c"][place].to_string()),
     }
 }
 
 fn stamp_words(stamp: u32) -> Words {
-    Words { words: vec![i64::from(stamp)], name: |_| "stamp".to_string() }
+    Words { words: vec![i64::from(stamp)], name: Box::new(|_| "stamp".to_string()) }
+}
+
+const LOT: [&str; 5] =
+    ["number", "number of nodes", "number of elements", "label's place", "label's length"];
+
+/// Where a label stands in the file, by its address; -1 if it is none of the
+/// file's bytes.
+fn place_in(file: &[u8], label: &[u8]) -> i64 {
+    let (file, label) = (file.as_ptr_range(), label.as_ptr_range());
+    if file.start <= label.start && label.end <= file.end {
+        label.start as i64 - file.start as i64
+    } else {
+        -1
+    }
+}
+
+/// What is said of a lot, the lent space with its fences, and the label's bytes.
+fn lot_words(program: &dyn Program, file: &[u8], nodes: usize, elements: usize) -> Words {
+    let mut node_space: Vec<i32> = (0..nodes + 2 * FENCE).map(|at| pattern(at) as i32).collect();
+    let mut element_space: Vec<u32> =
+        (0..elements + 2 * FENCE).map(|at| pattern(at) as u32).collect();
+    let Lot { number, nodes: node_count, elements: element_count, label } = program.read_lot(
+        file,
+        &mut node_space[FENCE..FENCE + nodes],
+        &mut element_space[FENCE..FENCE + elements],
+    );
+    let mut words: Vec<i64> = [number, node_count, element_count].map(i64::from).to_vec();
+    words.extend([place_in(file, label), label.len() as i64]);
+    words.extend(node_space.iter().copied().map(i64::from));
+    words.extend(element_space.iter().copied().map(i64::from));
+    words.extend(label.iter().copied().map(i64::from));
+    Words { words, name: Box::new(move |place| lot_name(place, nodes, elements)) }
+}
+
+fn lot_name(place: usize, nodes: usize, elements: usize) -> String {
+    let spaces = [("node", nodes), ("element", elements)];
+    let Some(mut at) = place.checked_sub(LOT.len()) else {
+        return LOT[place].to_string();
+    };
+    for (what, words) in spaces {
+        if at < words + 2 * FENCE {
+            return match at.checked_sub(FENCE) {
+                Some(at) if at < words => format!("{what} word {at} from 0"),
+                _ => format!("a word beside the {what} space"),
+            };
+        }
+        at -= words + 2 * FENCE;
+    }
+    format!("label byte {at} from 0")
 }
 
 /// The first word that differs, if any.
 fn difference(first: &Words, second: &Words) -> Option<String> {
-    if first.words.len() != second.words.len() {
-        return Some("answers of different length".to_string());
-    }
     let unlike = |(_, (x, y)): &(usize, (&i64, &i64))| x != y;
-    let (place, (x, y)) = first.words.iter().zip(&second.words).enumerate().find(unlike)?;
-    Some(format!("{}: {x} by the first, {y} by the second", (first.name)(place)))
+    if let Some((place, (x, y))) = first.words.iter().zip(&second.words).enumerate().find(unlike) {
+        return Some(format!("{}: {x} by the first, {y} by the second", (first.name)(place)));
+    }
+    let apart = first.words.len() != second.words.len();
+    apart.then(|| "answers of different length".to_string())
 }
 
 // ------------------------------------------------------------- over depths --
@@ -304,6 +353,10 @@ pub fn ask(
         }
         Question::Stamp { answer } => {
             let ask = |program: &dyn Program| stamp_words(program.stamp(*answer));
+            compared(question, ask, first, second)
+        }
+        Question::Lot { nodes, elements, file } => {
+            let ask = |program: &dyn Program| lot_words(program, file, *nodes, *elements);
             compared(question, ask, first, second)
         }
     }

@@ -233,12 +233,12 @@ fn extreme(shaker: &mut Shaker) -> Points {
 
 // ------------------------------------------------------------------ meshes --
 
-fn one_of<T: Copy>(shaker: &mut Shaker, of: &[T]) -> T {
+pub(crate) fn one_of<T: Copy>(shaker: &mut Shaker, of: &[T]) -> T {
     of[shaker.between(0, of.len() as i64 - 1) as usize]
 }
 
 /// True once in `times`.
-fn once_in(shaker: &mut Shaker, times: i64) -> bool {
+pub(crate) fn once_in(shaker: &mut Shaker, times: i64) -> bool {
     shaker.between(1, times) == 1
 }
 

@@ -1,7 +1,8 @@
 //! The built library and the second program, side by side.
 //!
 //! Both are asked the same questions, and every word of every answer is
-//! compared: numbers, counts, stamps, all report words, bounds, address moves.
+//! compared: numbers, counts, stamps, all report words, bounds, address moves;
+//! of a lot file also every word of the lent space, and the label with its place.
 //! What 01 says over depths is tested on the library's answers for every
 //! element, accepted mesh and bounds.  A difference carries its whole question,
 //! in one line that `compare again` takes.
@@ -12,6 +13,7 @@
 pub mod cases;
 pub mod check;
 pub mod draw;
+pub mod lots;
 pub mod program;
 pub mod question;
 pub mod run;

@@ -1,6 +1,7 @@
 //! Runs the built library beside the second program.
 //!
 //! `compare SEED COUNT`: the whole run, with COUNT random elements.
+//! `compare lots SEED COUNT`: its lot files alone.
 //! `compare again`: the questions on standard input, one a line, as a
 //! difference prints them; the answer of each is printed.
 
@@ -8,7 +9,7 @@
 
 use compare::program::{Product, Second};
 use compare::question::Question;
-use compare::run::{run, Pair, Plan};
+use compare::run::{run, run_lots, Pair, Plan};
 use std::io;
 use std::process::ExitCode;
 
@@ -24,18 +25,31 @@ fn again() -> Result<(), String> {
     Ok(())
 }
 
-fn whole(seed: &str, count: &str) -> Result<(), String> {
+fn plan(seed: &str, count: &str) -> Result<Plan, String> {
     let seed = seed.parse().map_err(|_| format!("no seed: {seed}"))?;
     let count = count.parse().map_err(|_| format!("no count: {count}"))?;
-    run(PAIR, Plan::of(seed, count), |line| println!("{line}")).map_err(|found| found.to_string())
+    Ok(Plan::of(seed, count))
+}
+
+fn say(line: String) {
+    println!("{line}");
+}
+
+fn whole(seed: &str, count: &str) -> Result<(), String> {
+    run(PAIR, plan(seed, count)?, say).map_err(|found| found.to_string())
+}
+
+fn lots(seed: &str, count: &str) -> Result<(), String> {
+    run_lots(PAIR, plan(seed, count)?, say).map_err(|found| found.to_string())
 }
 
 fn main() -> ExitCode {
     let arguments: Vec<String> = std::env::args().skip(1).collect();
     let done = match &arguments.iter().map(String::as_str).collect::<Vec<_>>()[..] {
         ["again"] => again(),
+        ["lots", seed, count] => lots(seed, count),
         [seed, count] => whole(seed, count),
-        _ => Err("use: compare SEED COUNT, or: compare again".to_string()),
+        _ => Err("use: compare [lots] SEED COUNT, or: compare again".to_string()),
     };
     match done {
         Ok(()) => {

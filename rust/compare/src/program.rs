@@ -1,5 +1,6 @@
 //! The two programs behind one face.
 
+use second::lot::{self, ELEMENT_WORDS, NODE_WORDS};
 use second::Limits;
 
 /// Every word of an inspection's answer: number, valid, invalid, undecided,
@@ -21,7 +22,17 @@ pub struct AtDepth {
     pub bounds: (u32, i64, i64),
 }
 
-/// A program that answers 01's services.
+/// What is said of a lot file: 0 or the number of the refusal, the numbers of
+/// nodes and of elements, and the label, a part of the file that was handed in.
+#[derive(Clone, Copy, Debug, PartialEq, Eq)]
+pub struct Lot<'a> {
+    pub number: u32,
+    pub nodes: u32,
+    pub elements: u32,
+    pub label: &'a [u8],
+}
+
+/// A program that answers the services of 01 and 02.
 pub trait Program: Sync {
     fn inspect(
         &self,
@@ -35,6 +46,7 @@ pub trait Program: Sync {
     fn child(&self, address: Address, n: u32) -> Move;
     fn corner(&self, address: Address, n: u32) -> Move;
     fn parent(&self, address: Address) -> Move;
+    fn read_lot<'a>(&self, file: &'a [u8], nodes: &mut [i32], elements: &mut [u32]) -> Lot<'a>;
 
     /// Eight points in range, at every depth from 0 to `depth`.
     fn over_depths(&self, points: &[i32; 24], depth: u32) -> Vec<AtDepth> {
@@ -50,8 +62,8 @@ pub trait Program: Sync {
 /// The indices of an element that has eight nodes of its own.
 pub const IN_ORDER: [u32; 8] = [0, 1, 2, 3, 4, 5, 6, 7];
 
-/// What lies in report space before a call: no word of any record, so that a
-/// word that was not written shows.
+/// What lies in lent space before a call: no word of any record, so that a word
+/// that was not written shows.
 pub const PATTERN: i64 = 0x5A5A_A5A5_DEAD_0001;
 
 // ------------------------------------------------------------- the product --
@@ -107,6 +119,12 @@ impl Program for Product {
 
     fn parent(&self, address: Address) -> Move {
         moved(place(address).parent())
+    }
+
+    fn read_lot<'a>(&self, file: &'a [u8], nodes: &mut [i32], elements: &mut [u32]) -> Lot<'a> {
+        let brundhal::Lot { number, nodes, elements, label } =
+            brundhal::read_lot(file, nodes, elements);
+        Lot { number, nodes, elements, label }
     }
 }
 
@@ -176,6 +194,22 @@ impl Program for Second {
 
     fn parent(&self, address: Address) -> Move {
         said(cube(address).parent(&Limits::base()))
+    }
+
+    fn read_lot<'a>(&self, file: &'a [u8], nodes: &mut [i32], elements: &mut [u32]) -> Lot<'a> {
+        match lot::read_lot(file, nodes.len(), elements.len()) {
+            Err(number) => Lot { number, nodes: 0, elements: 0, label: &file[..0] },
+            Ok(lot) => {
+                nodes[..lot.nodes.len()].copy_from_slice(&lot.nodes);
+                elements[..lot.elements.len()].copy_from_slice(&lot.elements);
+                Lot {
+                    number: 0,
+                    nodes: (lot.nodes.len() / NODE_WORDS) as u32,
+                    elements: (lot.elements.len() / ELEMENT_WORDS) as u32,
+                    label: &file[lot.label],
+                }
+            }
+        }
     }
 
     /// Each level looked at once, for all depths.

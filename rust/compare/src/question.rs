@@ -41,6 +41,12 @@ pub enum Question {
     Stamp {
         answer: [u32; 5],
     },
+    /// A lot file, with space of these numbers of words for nodes and elements.
+    Lot {
+        nodes: usize,
+        elements: usize,
+        file: Vec<u8>,
+    },
 }
 
 fn put<T: fmt::Display>(f: &mut fmt::Formatter<'_>, numbers: &[T]) -> fmt::Result {
@@ -48,7 +54,8 @@ fn put<T: fmt::Display>(f: &mut fmt::Formatter<'_>, numbers: &[T]) -> fmt::Resul
 }
 
 /// One line: a word for the service, then numbers.  A mesh is its depth, its
-/// report space, and each run with its length before it.
+/// report space, and each run with its length before it; a lot its two spaces,
+/// and its file likewise.
 impl fmt::Display for Question {
     fn fmt(&self, f: &mut fmt::Formatter<'_>) -> fmt::Result {
         match self {
@@ -81,6 +88,10 @@ impl fmt::Display for Question {
             Question::Stamp { answer } => {
                 write!(f, "stamp")?;
                 put(f, answer)
+            }
+            Question::Lot { nodes, elements, file } => {
+                write!(f, "lot {nodes} {elements} {}", file.len())?;
+                put(f, file)
             }
         }
     }
@@ -121,6 +132,7 @@ impl Numbers<'_> {
             "corner" => Question::Corner { n: self.one()?, address: self.array()? },
             "parent" => Question::Parent { address: self.array()? },
             "stamp" => Question::Stamp { answer: self.array()? },
+            "lot" => Question::Lot { nodes: self.one()?, elements: self.one()?, file: self.run()? },
             _ => return None,
         };
         self.0.next().is_none().then_some(question)

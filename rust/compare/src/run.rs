@@ -3,6 +3,7 @@
 use crate::cases::{cases, figures, not_as_printed, rounded};
 use crate::check::{ask, last_record, Difference, POINTS_A_LEVEL};
 use crate::draw::{self, Kind, KINDS};
+use crate::lots;
 use crate::program::{Program, IN_ORDER};
 use crate::question::Question;
 use second::specimens::Shaker;
@@ -19,12 +20,14 @@ pub struct Plan {
     pub elements: usize,
     pub meshes: usize,
     pub moves: usize,
+    /// Random lots of each kind.
+    pub lots: usize,
 }
 
 impl Plan {
-    /// Meshes and moves in proportion to a number of elements.
+    /// Meshes, moves and lots in proportion to a number of elements.
     pub fn of(seed: u64, elements: usize) -> Plan {
-        Plan { seed, elements, meshes: elements / 50, moves: elements }
+        Plan { seed, elements, meshes: elements / 50, moves: elements, lots: 3 * elements }
     }
 }
 
@@ -58,6 +61,12 @@ fn count(tally: &mut Tally, what: String) {
     *tally.entry(what).or_insert(0) += 1;
 }
 
+fn add(to: &mut Tally, tally: Tally) {
+    for (what, times) in tally {
+        *to.entry(what).or_insert(0) += times;
+    }
+}
+
 /// Jobs 0, 1, .. on two threads, until one finds a difference.
 fn on_two_threads(
     jobs: usize,
@@ -79,10 +88,7 @@ fn on_two_threads(
                 break;
             }
         }
-        let mut whole = whole.lock().expect("no thread panics");
-        for (what, times) in tally {
-            *whole.entry(what).or_insert(0) += times;
-        }
+        add(&mut whole.lock().expect("no thread panics"), tally);
     };
     std::thread::scope(|scope| {
         let other = scope.spawn(work);
@@ -177,7 +183,7 @@ fn refusals(pair: Pair) -> Result<String, Difference> {
             coordinates: cube.iter().copied().cycle().take(coordinates).collect(),
             indices: IN_ORDER.iter().copied().cycle().take(indices).collect(),
         })?;
-        count(tally, format!("number {}", words[0]));
+        count(tally, numbered(words[0]));
         Ok(())
     })?;
     let said = in_words(&tally);
@@ -190,7 +196,7 @@ fn meshes(pair: Pair, plan: Plan) -> Result<String, Difference> {
         let mut shaker = shaker_for(plan.seed, 1, turn);
         let question = draw::mesh(&mut shaker);
         let words = pair.ask(&question)?;
-        count(tally, format!("number {}", words[0]));
+        count(tally, numbered(words[0]));
         for (kind, name) in ["valid", "invalid", "undecided", "refused"].iter().enumerate() {
             *tally.entry(format!("{name} records")).or_insert(0) += words[1 + kind] as u64;
         }
@@ -279,9 +285,53 @@ fn elements(pair: Pair, plan: Plan) -> Result<String, Difference> {
     Ok(format!("{} elements, all {OVER_DEPTHS}, {}", plan.elements, in_words(&tally)))
 }
 
+fn numbered(number: i64) -> String {
+    format!("number {number}")
+}
+
 fn in_words(tally: &Tally) -> String {
     let parts: Vec<String> = tally.iter().map(|(what, times)| format!("{what} {times}")).collect();
     parts.join("; ")
+}
+
+/// One lot of a corpus.
+fn count_lot(pair: Pair, lot: &Question, tally: &mut Tally) -> Result<(), Difference> {
+    count(tally, numbered(pair.ask(lot)?[0]));
+    Ok(())
+}
+
+/// What was met in some lots, said in a line.
+fn lots_in_words(tally: &Tally, start: Instant) -> String {
+    let seconds = start.elapsed().as_secs_f64();
+    format!("{} lots, {} ({seconds:.1} s)", tally.values().sum::<u64>(), in_words(tally))
+}
+
+/// Lot files, corpus by corpus.  Among them every answer's number is met: 0 and
+/// 20 to 27.
+pub fn run_lots(pair: Pair, plan: Plan, say: impl Fn(String)) -> Result<(), Difference> {
+    let begun = Instant::now();
+    let mut whole = Tally::new();
+    let mut done = |name: &str, tally: Tally, start: Instant| {
+        say(format!("lots, {name}: {}", lots_in_words(&tally, start)));
+        add(&mut whole, tally);
+    };
+    for (name, lots) in lots::listed() {
+        let start = Instant::now();
+        let job = |turn: usize, tally: &mut Tally| count_lot(pair, &lots[turn], tally);
+        done(name, on_two_threads(lots.len(), job)?, start);
+    }
+    for (part, (name, draw)) in (5..).zip(lots::DRAWN) {
+        let start = Instant::now();
+        let job = |turn: usize, tally: &mut Tally| {
+            count_lot(pair, &draw(&mut shaker_for(plan.seed, part, turn)), tally)
+        };
+        done(name, on_two_threads(plan.lots, job)?, start);
+    }
+    for number in std::iter::once(0).chain(20..=27) {
+        assert!(whole.contains_key(&numbered(number)), "no lot of number {number} was met");
+    }
+    say(format!("all lots: {}", lots_in_words(&whole, begun)));
+    Ok(())
 }
 
 /// One part of a run.
@@ -304,5 +354,5 @@ pub fn run(pair: Pair, plan: Plan, say: impl Fn(String)) -> Result<(), Differenc
         let said = part()?;
         say(format!("{name}: {said} ({:.1} s)", start.elapsed().as_secs_f64()));
     }
-    Ok(())
+    run_lots(pair, plan, say)
 }

@@ -5,9 +5,12 @@
 
 use compare::cases::cases;
 use compare::check::{ask, Difference};
-use compare::program::{Address, Answer, Move, Product, Program, Second};
+use compare::program::{Address, Answer, Lot, Move, Product, Program, Second};
 use compare::question::Question;
 use compare::run::{run, Pair, Plan};
+
+#[path = "able_to_fail/lots.rs"]
+mod lots;
 
 /// What is wrong.
 #[derive(Clone, Copy, Debug, PartialEq)]
@@ -253,10 +256,14 @@ impl Program for Wrong {
         }
         Second.parent(address)
     }
+
+    fn read_lot<'a>(&self, file: &'a [u8], nodes: &mut [i32], elements: &mut [u32]) -> Lot<'a> {
+        Second.read_lot(file, nodes, elements)
+    }
 }
 
 fn small_plan() -> Plan {
-    Plan { seed: 5, elements: 1500, meshes: 400, moves: 2000 }
+    Plan { seed: 5, elements: 1500, meshes: 400, moves: 2000, lots: 2000 }
 }
 
 /// The question that a difference prints finds the same difference again.
@@ -351,6 +358,10 @@ impl Program for Unsteady {
     fn parent(&self, address: Address) -> Move {
         Product.parent(address)
     }
+
+    fn read_lot<'a>(&self, file: &'a [u8], nodes: &mut [i32], elements: &mut [u32]) -> Lot<'a> {
+        Product.read_lot(file, nodes, elements)
+    }
 }
 
 /// The points of a worked case.
@@ -427,13 +438,16 @@ fn questions_read_back() {
         Question::Corner { address: [u32::MAX; 4], n: 0 },
         Question::Parent { address: [2, 3, 3, 3] },
         Question::Stamp { answer: [0, 1, 2, 3, 4] },
+        Question::Lot { nodes: 0, elements: 9, file: vec![] },
+        Question::Lot { nodes: 1, elements: 0, file: b"LB\x01\0~EN\0\0".to_vec() },
     ];
     for question in questions {
         let read: Question = question.to_string().parse().expect("a question");
         assert_eq!(read, question);
         assert!(ask(&Product, &Second, &question).is_ok());
     }
-    for line in ["", "element 3 1 2", "parent 1 2 3 4 5", "inspect 0 0 1", "sound"] {
+    for line in ["", "element 3 1 2", "parent 1 2 3 4 5", "inspect 0 0 1", "lot 0 0 1 256", "sound"]
+    {
         assert!(line.parse::<Question>().is_err());
     }
 }

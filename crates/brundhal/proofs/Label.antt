@@ -1,0 +1,19 @@
+-- The place and the length that a lot file's answer gives are those of its label in the file. Assumes nothing.
+use mathlib.Core.Path.{_≡_, refl, sym}
+use mathlib.Core.List.{List}
+use Prim.Native.Nat.{ℕ}
+use lib.ListN.{length, take, drop}
+use Rattle.foundation.specs.Lists.{All}
+use Rattle.lotfile.specs.Numbers.{Byte}
+use Rattle.lotfile.specs.Format.{FileLimits}
+use Rattle.lotfile.specs.Reading.{Reading, accepted, refused, readingNumber, reading, handedOut}
+use Rattle.lotfile.specs.Accepted.{reading-accepted, accepted-label}
+use Rattle.brundhal.specs.Meaning.{labelStart}
+
+pub label-in-file : (F : FileLimits) (file : List ℕ) (nodes elements : ℕ) → All Byte file
+    → take (length (handedOut (reading F file nodes elements) .label)) (drop (labelStart (readingNumber (reading F file nodes elements))) file) ≡ handedOut (reading F file nodes elements) .label
+label-in-file F file nodes elements h = go (reading F file nodes elements) refl
+  where
+    go : (r : Reading) → reading F file nodes elements ≡ r → take (length (handedOut r .label)) (drop (labelStart (readingNumber r)) file) ≡ handedOut r .label
+    go (refused w) e = refl
+    go (accepted lot) e = sym (accepted-label F file lot h (reading-accepted F file nodes elements lot e .0))

@@ -1,0 +1,4 @@
+pub mod Laws
+pub mod Seen
+pub mod Handed
+pub mod Answers

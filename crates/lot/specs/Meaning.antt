@@ -1,0 +1,135 @@
+-- What the code's answers stand for in the definitions of the lot file.
+use mathlib.Core.Path.{_≡_}
+use mathlib.Core.List.{List, [], _++_}
+use mathlib.Core.Option.{Option, none, some}
+use Prim.Native.Nat.{ℕ, _+_, _*_, _≤_}
+use lib.ListN.{length, take, drop}
+use lib.IntN.{ℤ}
+use Rattle.lotfile.specs.Numbers.{unsigneds, signeds}
+use Rattle.lotfile.specs.Format.{Mark as FileMark, LB as markLB, ND as markND, HX as markHX, EN as markEN, Stage as FileStage, atLabel, atNodes, atElements, atEnd, Lot}
+use Rattle.lotfile.specs.Reading.{Refusal as Why, tooLong, cutShort, unknownMark, wrongLength, outOfPlace, badByte, tooManyElements, noRoom, Entry as FileEntry, faulty, whole, Reading, accepted, refused, handedOut}
+use Rattle.lot.specs.declared.Refusal.{Refusal}
+use Rattle.lot.specs.declared.Refusal.the-variants.{TooLong, CutShort, UnknownMark, WrongLength, OutOfPlace, BadByte, TooManyElements, NoRoom}
+use Rattle.lot.specs.declared.Mark.{Mark}
+use Rattle.lot.specs.declared.Mark.the-variants.{LB, ND, HX, EN}
+use Rattle.lot.specs.declared.Marked.{Marked}
+use Rattle.lot.specs.declared.Marked.the-variants.{Known, Unknown}
+use Rattle.lot.specs.declared.Stage.{Stage}
+use Rattle.lot.specs.declared.Stage.the-variants.{AtLabel, AtNodes, AtElements, AtEnd}
+use Rattle.lot.specs.declared.Place.{Place}
+use Rattle.lot.specs.declared.Place.the-variants.{In, Out}
+use Rattle.lot.specs.declared.Body.{Body}
+use Rattle.lot.specs.declared.Body.the-variants.{Right, Wrong}
+use Rattle.lot.specs.declared.Entry.{Entry}
+use Rattle.lot.specs.declared.Entry.the-variants.{Faulty, Whole}
+use Rattle.lot.specs.declared.Counts.{Counts}
+use Rattle.lot.specs.declared.Filled.{Filled}
+use Rattle.lot.specs.declared.Look.{Look}
+use Rattle.lot.specs.declared.Look.the-variants.{Counted, Refused}
+
+abbrev pub refusalHeld : Refusal → Why
+refusalHeld TooLong = tooLong
+refusalHeld CutShort = cutShort
+refusalHeld UnknownMark = unknownMark
+refusalHeld WrongLength = wrongLength
+refusalHeld OutOfPlace = outOfPlace
+refusalHeld BadByte = badByte
+refusalHeld TooManyElements = tooManyElements
+refusalHeld NoRoom = noRoom
+
+abbrev pub markHeld : Mark → FileMark
+markHeld LB = markLB
+markHeld ND = markND
+markHeld HX = markHX
+markHeld EN = markEN
+
+abbrev pub markedHeld : Marked → Option FileMark
+markedHeld (Known m) = some (markHeld m)
+markedHeld Unknown = none
+
+abbrev pub stageHeld : Stage → FileStage
+stageHeld AtLabel = atLabel
+stageHeld AtNodes = atNodes
+stageHeld AtElements = atElements
+stageHeld AtEnd = atEnd
+
+abbrev pub placeHeld : Place → Option FileStage
+placeHeld (In s) = some (stageHeld s)
+placeHeld Out = none
+
+abbrev pub faultHeld : Body → Option Why
+faultHeld Right = none
+faultHeld (Wrong r) = some (refusalHeld r)
+
+-- an entry found in front of the bytes that are left: the body starts past its first four
+abbrev pub entryHeld : List ℕ → Entry → FileEntry
+entryHeld bytes (Faulty r) = faulty (refusalHeld r)
+entryHeld bytes (Whole m s n) = whole (markHeld m) (stageHeld s) (take n (drop 4 bytes))
+
+-- and it ends before they do
+abbrev pub Within : List ℕ → Entry → Type 0
+Within bytes (Faulty r) = Unit
+Within bytes (Whole m s n) = 4 + n ≤ length bytes
+
+-- the counts with one entry more, whose body has so many bytes
+abbrev pub countedOf : FileMark → ℕ → Counts → Counts
+countedOf markLB len n = record { label = len; nodes = n .nodes; elements = n .elements }
+countedOf markND len n = record { label = n .label; nodes = n .nodes + 1; elements = n .elements }
+countedOf markHX len n = record { label = n .label; nodes = n .nodes; elements = n .elements + 1 }
+countedOf markEN len n = n
+
+-- What a look through a file finds: the bytes of the label and the numbers of the nodes and of the elements, how many; or why the file is refused.
+pub data Found : Type 0 where
+  holds : (label nodes elements : ℕ) → Found
+  fails : Why → Found
+
+abbrev pub lookHeld : Look → Found
+lookHeld (Counted n) = holds (n .label) (3 * n .nodes) (8 * n .elements)
+lookHeld (Refused r) = fails (refusalHeld r)
+
+abbrev pub lookOf : Reading → Found
+lookOf (accepted lot) = holds (length (lot .label)) (length (lot .nodes)) (length (lot .elements))
+lookOf (refused r) = fails r
+
+-- no more than a file has bytes
+abbrev pub Few : Look → Type 0
+Few (Counted n) = (n .label ≤ 65536) × (n .nodes ≤ 65536) × (n .elements ≤ 65536)
+Few (Refused r) = Unit
+
+-- ---- handing out: the numbers of one entry, whose body stands first in these bytes
+abbrev pub newNodes : FileMark → List ℕ → List ℤ
+newNodes markLB bytes = []
+newNodes markND bytes = signeds 3 bytes
+newNodes markHX bytes = []
+newNodes markEN bytes = []
+
+abbrev pub newElements : FileMark → List ℕ → List ℕ
+newElements markLB bytes = []
+newElements markND bytes = []
+newElements markHX bytes = unsigneds 8 bytes
+newElements markEN bytes = []
+
+-- a run laid over lent words, from the n-th on
+abbrev pub put : {A : Type 0} → ℕ → List A → List A → List A
+put n xs space = take n space ++ xs ++ drop (n + length xs) space
+
+-- the words that are filled then
+abbrev pub filledOf : FileMark → Filled → Filled
+filledOf markLB f = f
+filledOf markND f = record { nodes = f .nodes + 3; elements = f .elements }
+filledOf markHX f = record { nodes = f .nodes; elements = f .elements + 8 }
+filledOf markEN f = f
+
+-- the entry's bytes and the words for its numbers are there; the lengths of the file and of the two lent runs
+abbrev pub Fitting : FileMark → ℕ → ℕ → ℕ → ℕ → Filled → Type 0
+Fitting markLB file at nodes elements f = Unit
+Fitting markND file at nodes elements f = (at + 12 ≤ file) × (f .nodes + 3 ≤ nodes)
+Fitting markHX file at nodes elements f = (at + 32 ≤ file) × (f .elements + 8 ≤ elements)
+Fitting markEN file at nodes elements f = Unit
+
+-- a file without fault, and lent words enough for what it holds
+abbrev pub IsAccepted : Reading → Type 0
+IsAccepted r = r ≡ accepted (handedOut r)
+
+abbrev pub HasRoom : Lot → ℕ → ℕ → Type 0
+HasRoom lot nodes elements = (length (lot .nodes) ≤ nodes) × (length (lot .elements) ≤ elements)

@@ -1,0 +1,90 @@
+-- A small lot file, and what is done to it to meet each refusal, as a single list under one claim.
+use mathlib.Core.Path.{_≡_, refl}
+use mathlib.Core.List.{List, [], _∷_, _++_}
+use Prim.Native.Nat.{ℕ}
+use lib.ListN.{take, drop}
+use lib.IntN.{pos, negsuc}
+use Rattle.foundation.specs.Lists.{All}
+use Rattle.lotfile.specs.Numbers.{signed}
+use Rattle.lotfile.specs.Format.{FileLimits, lotFile, Lot, markOf, written}
+use Rattle.lotfile.specs.Reading.{Refusal, tooLong, cutShort, unknownMark, wrongLength, outOfPlace, badByte, tooManyElements, noRoom, bodyOf, entryOf, Reading, accepted, refused, readFrom, readLot, reading}
+
+-- "CUBE", the node (1, −1, −2,147,483,648), and an element; its last two indices are 256 and 4,294,967,295
+abbrev pub labelEntry : List ℕ
+labelEntry = 76 ∷ 66 ∷ 4 ∷ 0 ∷ 67 ∷ 85 ∷ 66 ∷ 69 ∷ []
+
+abbrev pub nodeEntry : List ℕ
+nodeEntry = 78 ∷ 68 ∷ 12 ∷ 0 ∷ 1 ∷ 0 ∷ 0 ∷ 0 ∷ 255 ∷ 255 ∷ 255 ∷ 255 ∷ 0 ∷ 0 ∷ 0 ∷ 128 ∷ []
+
+abbrev pub elementEntry : List ℕ
+elementEntry = 72 ∷ 88 ∷ 32 ∷ 0 ∷ 0 ∷ 0 ∷ 0 ∷ 0 ∷ 1 ∷ 0 ∷ 0 ∷ 0 ∷ 2 ∷ 0 ∷ 0 ∷ 0 ∷ 3 ∷ 0 ∷ 0 ∷ 0 ∷ 4 ∷ 0 ∷ 0 ∷ 0 ∷ 5 ∷ 0 ∷ 0 ∷ 0 ∷ 0 ∷ 1 ∷ 0 ∷ 0 ∷ 255 ∷ 255 ∷ 255 ∷ 255 ∷ []
+
+abbrev pub endEntry : List ℕ
+endEntry = 69 ∷ 78 ∷ 0 ∷ 0 ∷ []
+
+abbrev pub sample : Lot
+sample = record { label = 67 ∷ 85 ∷ 66 ∷ 69 ∷ []; nodes = pos 1 ∷ negsuc 0 ∷ negsuc 2147483647 ∷ []; elements = 0 ∷ 1 ∷ 2 ∷ 3 ∷ 4 ∷ 5 ∷ 256 ∷ 4294967295 ∷ [] }
+
+abbrev pub sampleFile : List ℕ
+sampleFile = labelEntry ++ (nodeEntry ++ (elementEntry ++ endEntry))
+
+pub sample-written : written sample ≡ sampleFile
+unfolding written
+sample-written = refl
+
+-- a file, the limits, the lengths of the two lent runs, and the answer
+pub record Example : Type 0 where
+  pub limits : FileLimits
+  pub file : List ℕ
+  pub nodes : ℕ
+  pub elements : ℕ
+  pub answer : Reading
+
+abbrev read : List ℕ → Reading → Example
+read file answer = record { limits = lotFile; file = file; nodes = 3; elements = 8; answer = answer }
+
+-- with room for so much, and with other limits
+abbrev roomy : ℕ → ℕ → Reading → Example
+roomy nodes elements answer = record { limits = lotFile; file = sampleFile; nodes = nodes; elements = elements; answer = answer }
+
+abbrev limited : ℕ → ℕ → ℕ → Reading → Example
+limited bytes name elements answer = record { limits = record { bytes = bytes; name = name; elements = elements }; file = sampleFile; nodes = 3; elements = 8; answer = answer }
+
+abbrev pub examples : List Example
+examples =
+    read sampleFile (accepted sample) ∷
+    read ([]) (refused cutShort) ∷
+    read (take 3 sampleFile) (refused cutShort) ∷
+    read (take 6 sampleFile) (refused cutShort) ∷
+    read (take 60 sampleFile) (refused cutShort) ∷
+    read (88 ∷ drop 1 sampleFile) (refused unknownMark) ∷
+    read (labelEntry ++ (78 ∷ 67 ∷ 11 ∷ 0 ∷ [])) (refused unknownMark) ∷
+    read (nodeEntry ++ (labelEntry ++ endEntry)) (refused outOfPlace) ∷
+    read (labelEntry ++ labelEntry) (refused outOfPlace) ∷
+    read (labelEntry ++ (elementEntry ++ (nodeEntry ++ endEntry))) (refused outOfPlace) ∷
+    read (78 ∷ 68 ∷ 11 ∷ 0 ∷ []) (refused outOfPlace) ∷
+    read (endEntry) (refused outOfPlace) ∷
+    read (sampleFile ++ (0 ∷ [])) (refused outOfPlace) ∷
+    read (76 ∷ 66 ∷ 33 ∷ 0 ∷ []) (refused wrongLength) ∷
+    read (76 ∷ 66 ∷ 0 ∷ 1 ∷ []) (refused wrongLength) ∷
+    read (labelEntry ++ (78 ∷ 68 ∷ 11 ∷ 0 ∷ [])) (refused wrongLength) ∷
+    read (labelEntry ++ (72 ∷ 88 ∷ 12 ∷ 0 ∷ [])) (refused wrongLength) ∷
+    read (labelEntry ++ (69 ∷ 78 ∷ 1 ∷ 0 ∷ 0 ∷ [])) (refused wrongLength) ∷
+    read (76 ∷ 66 ∷ 1 ∷ 0 ∷ 31 ∷ []) (refused badByte) ∷
+    read (76 ∷ 66 ∷ 1 ∷ 0 ∷ 127 ∷ []) (refused badByte) ∷
+    read (76 ∷ 66 ∷ 2 ∷ 0 ∷ 32 ∷ 126 ∷ endEntry) (accepted (record { label = 32 ∷ 126 ∷ []; nodes = []; elements = [] })) ∷
+    limited 64 4 1 (accepted sample) ∷
+    limited 63 4 1 (refused tooLong) ∷
+    limited 64 3 1 (refused wrongLength) ∷
+    limited 64 4 0 (refused tooManyElements) ∷
+    roomy 2 8 (refused noRoom) ∷
+    roomy 3 7 (refused noRoom) ∷
+    roomy 5000 9 (accepted sample) ∷ []
+
+-- The one claim.
+abbrev pub Holds : Example → Type 0
+Holds e = reading (e .limits) (e .file) (e .nodes) (e .elements) ≡ e .answer
+
+pub examples-hold : All Holds examples
+unfolding signed markOf bodyOf entryOf readFrom readLot reading
+examples-hold = (refl, (refl, (refl, (refl, (refl, (refl, (refl, (refl, (refl, (refl, (refl, (refl, (refl, (refl, (refl, (refl, (refl, (refl, (refl, (refl, (refl, (refl, (refl, (refl, (refl, (refl, (refl, (refl, tt))))))))))))))))))))))))))))

@@ -1,0 +1,109 @@
+-- Document 02, No. 1: the records of a lot file, their order, and the file that a lot is written out as.
+-- A record of a file is called an entry here: a record is what a report has for an element.
+use mathlib.Core.Bool.{Bool, true, false, _&&_}
+use mathlib.Core.List.{List, [], _∷_, _++_}
+use mathlib.Core.Option.{Option, none, some}
+use Prim.Native.Nat.{ℕ, zero, suc, _/_}
+use lib.Dec.{eqb, leb}
+use lib.ListN.{getD, length, take, drop}
+use lib.IntN.{ℤ}
+use Rattle.definitions.specs.Limits.{base}
+use Rattle.lotfile.specs.Numbers.{numberBytes, unsignedBytes, signedBytes}
+
+-- "one file of at most 65,536 bytes"; 01, "A label or name is 0 to 32 bytes"; 01, "at most 1,000 elements"
+pub record FileLimits : Type 0 where
+  pub bytes : ℕ
+  pub name : ℕ
+  pub elements : ℕ
+
+abbrev pub lotFile : FileLimits
+lotFile = record { bytes = 65536; name = 32; elements = base .elements }
+
+-- What a lot holds: its label, three coordinates a node and eight indices an element.
+pub record Lot : Type 0 where
+  pub label : List ℕ
+  pub nodes : List ℤ
+  pub elements : List ℕ
+
+-- "Each record has a two-byte mark, a two-byte length and a body: LB, the label; ND, a node, three signed 32-bit; HX, an element, eight unsigned 32-bit; EN, empty."
+pub data Mark : Type 0 where
+  LB : Mark
+  ND : Mark
+  HX : Mark
+  EN : Mark
+
+-- the two bytes of a mark
+abbrev pub letters : Mark → List ℕ
+letters LB = 76 ∷ 66 ∷ []
+letters ND = 78 ∷ 68 ∷ []
+letters HX = 72 ∷ 88 ∷ []
+letters EN = 69 ∷ 78 ∷ []
+
+abbrev pub isMark : Mark → ℕ → ℕ → Bool
+isMark m a b = eqb a (getD (letters m) 0 0) && eqb b (getD (letters m) 1 0)
+
+unfoldable pub markOf : ℕ → ℕ → Option Mark
+markOf a b =
+    elim (isMark LB a b) [
+      | true ↦ some LB
+      | false ↦
+          elim (isMark ND a b) [
+            | true ↦ some ND
+            | false ↦ elim (isMark HX a b) [ true ↦ some HX | false ↦ elim (isMark EN a b) [ true ↦ some EN | false ↦ none ] ]
+          ]
+    ]
+
+-- the length of a body
+abbrev pub rightLength : FileLimits → Mark → ℕ → Bool
+rightLength F LB n = leb n (F .name)
+rightLength F ND n = eqb n 12
+rightLength F HX n = eqb n 32
+rightLength F EN n = eqb n 0
+
+-- "Order: one LB, any ND, any HX, one EN, nothing more." Which marks are still in place: none was read yet; the label or a node was; an element was; the end was.
+pub data Stage : Type 0 where
+  atLabel : Stage
+  atNodes : Stage
+  atElements : Stage
+  atEnd : Stage
+
+-- the stage after a mark, where the mark is in place
+abbrev pub after : Stage → Mark → Option Stage
+after atLabel LB = some atNodes
+after atLabel ND = none
+after atLabel HX = none
+after atLabel EN = none
+after atNodes LB = none
+after atNodes ND = some atNodes
+after atNodes HX = some atElements
+after atNodes EN = some atEnd
+after atElements LB = none
+after atElements ND = none
+after atElements HX = some atElements
+after atElements EN = some atEnd
+after atEnd m = none
+
+-- "each 32..126"
+abbrev pub nameByte : ℕ → Bool
+nameByte b = leb 32 b && leb b 126
+
+abbrev pub nameBytes : List ℕ → Bool
+nameBytes [] = true
+nameBytes (b ∷ bs) = elim (nameByte b) [ true ↦ nameBytes bs | false ↦ false ]
+
+-- ---- writing out
+abbrev pub entryBytes : Mark → List ℕ → List ℕ
+entryBytes m body = letters m ++ (numberBytes 2 (length body) ++ body)
+
+-- one entry for each of n nodes, and of n elements
+abbrev pub nodeEntries : ℕ → List ℤ → List ℕ
+nodeEntries zero xs = []
+nodeEntries (suc n) xs = entryBytes ND (signedBytes (take 3 xs)) ++ nodeEntries n (drop 3 xs)
+
+abbrev pub elementEntries : ℕ → List ℕ → List ℕ
+elementEntries zero xs = []
+elementEntries (suc n) xs = entryBytes HX (unsignedBytes (take 8 xs)) ++ elementEntries n (drop 8 xs)
+
+unfoldable pub written : Lot → List ℕ
+written lot =
+    entryBytes LB (lot .label) ++ (nodeEntries (length (lot .nodes) / 3) (lot .nodes) ++ (elementEntries (length (lot .elements) / 8) (lot .elements) ++ entryBytes EN []))

@@ -1,0 +1,14 @@
+pub mod Numbers
+pub mod Format
+pub mod Reading
+pub mod Examples
+pub mod NumberLaws
+pub mod Steps
+pub mod Entries
+pub mod Through
+pub mod Reached
+pub mod Enough
+pub mod Writing
+pub mod Lawful
+pub mod Between
+pub mod Accepted

@@ -1,0 +1,101 @@
+-- Bytes and the numbers that they stand for: each is had from the other.
+use mathlib.Core.Path.{_≡_, refl, sym, _∙_, ap, ap₂}
+use mathlib.Core.Bool.{Bool, true, false}
+use mathlib.Core.List.{List, [], _∷_, _++_}
+use Prim.Native.Nat.{ℕ, zero, suc, _+_, _-_, _*_, _/_, _%_, _^_, _<_, _≤_}
+use native.Mathlib.Nat.{pow-suc}
+use native.Mathlib.Omega.{arith}
+use lib.Dec.{ltb}
+use lib.ListN.{getD, length, take, drop, length-take, length-drop, take-append-drop}
+use lib.Seq.{length-take-le}
+use lib.IntN.{ℤ, pos, negsuc}
+use lib.Signed.{mag}
+use mir.Syntax.{w32}
+use mir.Val.{sel, toZ, ofZ}
+use mir.Facts.{toZ-ofZ, ofZ-toZ, sfits-toZ}
+use Rattle.foundation.specs.Lists.{All, all-left, all-right, getD-all}
+use Rattle.lotfile.specs.Numbers.{Byte, number, numberBytes, signed, bits, unsigneds, signeds, unsignedBytes, signedBytes}
+
+pub bytes-take : (n : ℕ) (bs : List ℕ) → All Byte bs → All Byte (take n bs)
+bytes-take n bs h = all-left Byte (take n bs) (drop n bs) (rw take-append-drop h)
+
+pub bytes-drop : (n : ℕ) (bs : List ℕ) → All Byte bs → All Byte (drop n bs)
+bytes-drop n bs h = all-right Byte (take n bs) (drop n bs) (rw take-append-drop h)
+
+pub bytes-by-place : (bs : List ℕ) → ((i : ℕ) → Byte (getD bs i 0)) → All Byte bs
+bytes-by-place bs h = getD-all Byte bs 0 (λ i l. h i)
+
+-- ---- one number
+pub numberBytes-number : (bs : List ℕ) → All Byte bs → numberBytes (length bs) (number bs) ≡ bs
+numberBytes-number [] h = refl
+numberBytes-number (b ∷ bs) h = let x = b + 256 * number bs in
+    let low : x % 256 ≡ b = omega (arith, h .0) in
+    let high : x / 256 ≡ number bs = omega (arith, h .0) in
+    ap₂ _∷_ low (ap (numberBytes (length bs)) high ∙ numberBytes-number bs (h .1))
+
+pub number-numberBytes : (n x : ℕ) → x < 256 ^ n → number (numberBytes n x) ≡ x
+number-numberBytes zero x h = omega arith
+number-numberBytes (suc n) x h = omega (arith, number-numberBytes n (x / 256) (omega (arith, pow-suc 256 n)))
+
+pub number-small : (n : ℕ) (bs : List ℕ) → All Byte bs → length bs ≤ n → number bs < 256 ^ n
+number-small zero [] h l = omega arith
+number-small zero (b ∷ bs) h l = absurd (omega arith)
+number-small (suc n) [] h l = omega (arith, pow-suc 256 n, number-small n [] tt (omega arith))
+number-small (suc n) (b ∷ bs) h l = omega (arith, pow-suc 256 n, number-small n bs (h .1) (omega arith), h .0)
+
+-- ---- signed and unsigned numbers of 32 bits; they are the machine's
+pub signed-toZ : (x : ℕ) → signed x ≡ toZ w32 x
+unfolding signed
+signed-toZ x = go (ltb x (2 ^ 31))
+  where
+    go : (b : Bool) → _≡_ {A = ℤ} (elim b [ true ↦ pos x | false ↦ negsuc (2 ^ 32 - 1 - x) ]) (sel b (pos x) (negsuc (2 ^ 32 - suc x)))
+    go true = refl
+    go false = let e : 2 ^ 32 - 1 - x ≡ 2 ^ 32 - suc x = omega arith in ap negsuc e
+
+pub bits-ofZ : (z : ℤ) → bits z ≡ ofZ w32 z
+bits-ofZ (pos x) = refl
+bits-ofZ (negsuc x) = omega arith
+
+pub bits-signed : (x : ℕ) → x < 2 ^ 32 → bits (signed x) ≡ x
+bits-signed x h = bits-ofZ (signed x) ∙ ap (ofZ w32) (signed-toZ x) ∙ ofZ-toZ {w = w32} (record { fits = h })
+
+pub signed-bits : (z : ℤ) → mag z < 2 ^ 31 → signed (bits z) ≡ z
+signed-bits z h = signed-toZ (bits z) ∙ ap (toZ w32) (bits-ofZ z) ∙ toZ-ofZ (record { sfits = h })
+
+pub signed-small : (x : ℕ) → x < 2 ^ 32 → mag (signed x) < 2 ^ 31
+signed-small x h = rw signed-toZ (sfits-toZ {w = w32} (record { fits = h }) .sfits)
+
+-- ---- many numbers
+pub length-unsigneds : (n : ℕ) (bs : List ℕ) → length (unsigneds n bs) ≡ n
+length-unsigneds zero bs = refl
+length-unsigneds (suc n) bs = ap suc (length-unsigneds n (drop 4 bs))
+
+pub length-signeds : (n : ℕ) (bs : List ℕ) → length (signeds n bs) ≡ n
+length-signeds zero bs = refl
+length-signeds (suc n) bs = ap suc (length-signeds n (drop 4 bs))
+
+pub word-small : (bs : List ℕ) → All Byte bs → number (take 4 bs) < 2 ^ 32
+word-small bs h = number-small 4 (take 4 bs) (bytes-take 4 bs h) (simp length-take (omega arith))
+
+pub unsigneds-small : (n : ℕ) (bs : List ℕ) → All Byte bs → All (λ x. x < 2 ^ 32) (unsigneds n bs)
+unsigneds-small zero bs h = tt
+unsigneds-small (suc n) bs h = (word-small bs h, unsigneds-small n (drop 4 bs) (bytes-drop 4 bs h))
+
+pub signeds-small : (n : ℕ) (bs : List ℕ) → All Byte bs → All (λ z. mag z < 2 ^ 31) (signeds n bs)
+signeds-small zero bs h = tt
+signeds-small (suc n) bs h = (signed-small (number (take 4 bs)) (word-small bs h), signeds-small n (drop 4 bs) (bytes-drop 4 bs h))
+
+word-bytes : (bs : List ℕ) → All Byte bs → 4 ≤ length bs → numberBytes 4 (number (take 4 bs)) ≡ take 4 bs
+word-bytes bs h l = ap (λ n. numberBytes n (number (take 4 bs))) (sym (length-take-le 4 bs l)) ∙ numberBytes-number (take 4 bs) (bytes-take 4 bs h)
+
+pub unsignedBytes-unsigneds : (n : ℕ) (bs : List ℕ) → All Byte bs → length bs ≡ 4 * n → unsignedBytes (unsigneds n bs) ≡ bs
+unsignedBytes-unsigneds zero [] h l = refl
+unsignedBytes-unsigneds zero (b ∷ bs) h l = absurd (omega arith)
+unsignedBytes-unsigneds (suc n) bs h l = ap₂ _++_ (word-bytes bs h (omega arith)) (unsignedBytes-unsigneds n (drop 4 bs) (bytes-drop 4 bs h) (simp length-drop (omega arith))) ∙ take-append-drop 4 bs
+
+signedBytes-same : (n : ℕ) (bs : List ℕ) → All Byte bs → signedBytes (signeds n bs) ≡ unsignedBytes (unsigneds n bs)
+signedBytes-same zero bs h = refl
+signedBytes-same (suc n) bs h = ap₂ (λ x l. numberBytes 4 x ++ l) (bits-signed (number (take 4 bs)) (word-small bs h)) (signedBytes-same n (drop 4 bs) (bytes-drop 4 bs h))
+
+pub signedBytes-signeds : (n : ℕ) (bs : List ℕ) → All Byte bs → length bs ≡ 4 * n → signedBytes (signeds n bs) ≡ bs
+signedBytes-signeds n bs h l = signedBytes-same n bs h ∙ unsignedBytes-unsigneds n bs h l

@@ -1,0 +1,138 @@
+-- Document 02, No. 1: what reading a lot file finds. Every list of bytes has exactly one answer.
+use mathlib.Core.Bool.{Bool, true, false, _&&_}
+use mathlib.Core.List.{List, [], _∷_, _++_}
+use mathlib.Core.Option.{Option, none, some}
+use Prim.Native.Nat.{ℕ, zero, suc, _+_, _/_}
+use lib.Dec.{leb, ltb}
+use lib.ListN.{getD, length, take, drop}
+use lib.IntN.{ℤ}
+use Rattle.lotfile.specs.Numbers.{number, unsigneds, signeds}
+use Rattle.lotfile.specs.Format.{FileLimits, Lot, Mark, LB, ND, HX, EN, markOf, rightLength, Stage, atLabel, atNodes, atElements, atEnd, after, nameBytes}
+
+pub data Refusal : Type 0 where
+  tooLong : Refusal
+  cutShort : Refusal
+  unknownMark : Refusal
+  wrongLength : Refusal
+  outOfPlace : Refusal
+  badByte : Refusal
+  tooManyElements : Refusal
+  noRoom : Refusal
+
+abbrev pub refusalNumber : Refusal → ℕ
+refusalNumber tooLong = 20
+refusalNumber cutShort = 21
+refusalNumber unknownMark = 22
+refusalNumber wrongLength = 23
+refusalNumber outOfPlace = 24
+refusalNumber badByte = 25
+refusalNumber tooManyElements = 26
+refusalNumber noRoom = 27
+
+-- "label byte 25; a 1,001st element 26": the fault of a whole entry, where so many elements stand before it
+abbrev pub bodyFault : FileLimits → Mark → ℕ → List ℕ → Option Refusal
+bodyFault F LB n body = elim (nameBytes body) [ true ↦ none | false ↦ some badByte ]
+bodyFault F ND n body = none
+bodyFault F HX n body = elim (ltb n (F .elements)) [ true ↦ none | false ↦ some tooManyElements ]
+bodyFault F EN n body = none
+
+-- What stands first in the bytes that are left: a fault, or a whole entry, by its mark, the stage after it and its body.
+pub data Entry : Type 0 where
+  faulty : Refusal → Entry
+  whole : Mark → Stage → List ℕ → Entry
+
+-- the body of an entry whose mark and length are right
+unfoldable pub bodyOf : FileLimits → Mark → Stage → ℕ → ℕ → List ℕ → Entry
+bodyOf F m s n len rest =
+    elim (ltb (length rest) len) [
+      | true ↦ faulty cutShort
+      | false ↦ elim (bodyFault F m n (take len rest)) [ some r ↦ faulty r | none ↦ whole m s (take len rest) ]
+    ]
+
+-- "fewer than four bytes left 21; unknown mark 22; mark out of place 24; wrong length 23; body cut short 21"
+unfoldable pub entryOf : FileLimits → Stage → ℕ → List ℕ → Entry
+entryOf F stage n bytes =
+    elim (ltb (length bytes) 4) [
+      | true ↦ faulty cutShort
+      | false ↦
+          elim (markOf (getD bytes 0 0) (getD bytes 1 0)) [
+            | none ↦ faulty unknownMark
+            | some m ↦
+                elim (after stage m) [
+                  | none ↦ faulty outOfPlace
+                  | some s ↦
+                      elim (rightLength F m (number (take 2 (drop 2 bytes)))) [ false ↦ faulty wrongLength | true ↦ bodyOf F m s n (number (take 2 (drop 2 bytes))) (drop 4 bytes) ]
+                ]
+          ]
+    ]
+
+-- a lot with one entry more
+abbrev pub taken : Mark → List ℕ → Lot → Lot
+taken LB body lot = record { label = body; nodes = lot .nodes; elements = lot .elements }
+taken ND body lot = record { label = lot .label; nodes = lot .nodes ++ signeds 3 body; elements = lot .elements }
+taken HX body lot = record { label = lot .label; nodes = lot .nodes; elements = lot .elements ++ unsigneds 8 body }
+taken EN body lot = lot
+
+-- The answer: the lot, or why it is refused.
+pub data Reading : Type 0 where
+  accepted : Lot → Reading
+  refused : Refusal → Reading
+
+-- "Bytes after EN, whatever they are, are 24."
+abbrev pub ending : Lot → List ℕ → Reading
+ending lot [] = accepted lot
+ending lot (b ∷ bs) = refused outOfPlace
+
+abbrev pub hasEnded : Stage → Bool
+hasEnded atLabel = false
+hasEnded atNodes = false
+hasEnded atElements = false
+hasEnded atEnd = true
+
+-- Entry by entry, "the first fault decides", from a stage on, with the lot so far and the bytes that are left.
+-- The number falls at each entry; each takes four bytes at least, so one more than there are bytes is enough.
+unfoldable pub readFrom : FileLimits → ℕ → Stage → Lot → List ℕ → Reading
+readFrom F zero stage lot bytes = refused cutShort
+readFrom F (suc k) stage lot bytes =
+    elim (hasEnded stage) [
+      | true ↦ ending lot bytes
+      | false ↦
+          elim (entryOf F stage (length (lot .elements) / 8) bytes) [
+            | faulty r ↦ refused r
+            | whole m s body ↦ readFrom F k s (taken m body lot) (drop (4 + length body) bytes)
+          ]
+    ]
+
+abbrev pub noLot : Lot
+noLot = record { label = []; nodes = []; elements = [] }
+
+-- "20 file too long, tested first."
+unfoldable pub readLot : FileLimits → List ℕ → Reading
+readLot F file = elim (ltb (F .bytes) (length file)) [ true ↦ refused tooLong | false ↦ readFrom F (suc (length file)) atLabel noLot file ]
+
+-- "A lot without fault whose nodes or elements don't fit the lent space is 27." The lengths of the two lent runs.
+abbrev pub roomFor : Lot → ℕ → ℕ → Bool
+roomFor lot nodes elements = leb (length (lot .nodes)) nodes && leb (length (lot .elements)) elements
+
+unfoldable pub reading : FileLimits → List ℕ → ℕ → ℕ → Reading
+reading F file nodes elements = elim (readLot F file) [
+  | refused r ↦ refused r
+  | accepted lot ↦ elim (roomFor lot nodes elements) [ true ↦ accepted lot | false ↦ refused noRoom ]
+]
+
+-- ---- what is handed out: "Nothing of a refused lot is handed out"
+abbrev pub handedOut : Reading → Lot
+handedOut (accepted lot) = lot
+handedOut (refused r) = noLot
+
+-- the number 0 with the counts of nodes and elements, or the refusal's number with counts 0
+abbrev pub readingNumber : Reading → ℕ
+readingNumber (accepted lot) = 0
+readingNumber (refused r) = refusalNumber r
+
+unfoldable pub readingNumbers : Reading → List ℕ
+readingNumbers r = readingNumber r ∷ length (handedOut r .nodes) / 3 ∷ length (handedOut r .elements) / 8 ∷ []
+
+-- lent space afterwards: "A refusal leaves lent space untouched, and so is space past an answer's end."
+abbrev pub laidOver : {A : Type 0} → List A → List A → List A
+laidOver xs space = xs ++ drop (length xs) space

@@ -1,0 +1,91 @@
+-- One step of reading, case by case: what an entry is, and what is left to read after it.
+use mathlib.Core.Path.{_≡_, refl}
+use mathlib.Core.Bool.{true, false}
+use mathlib.Core.List.{List}
+use mathlib.Core.Option.{Option, none, some}
+use Prim.Native.Nat.{ℕ, suc, _+_, _/_, _≤_, _<_}
+use borrow.Author.Tests.{lt-ltb, le-ltb, lt-leb, le-leb}
+use lib.ListN.{getD, length, take, drop}
+use Rattle.lotfile.specs.Numbers.{number}
+use Rattle.lotfile.specs.Format.{FileLimits, Lot, Mark, markOf, rightLength, Stage, atLabel, after}
+use Rattle.lotfile.specs.Reading.{Refusal, tooLong, cutShort, unknownMark, wrongLength, outOfPlace, bodyFault, Entry, faulty, whole, bodyOf, entryOf, noRoom, taken, Reading, accepted, refused, hasEnded, ending, readFrom, noLot, readLot, reading}
+
+-- ---- a body
+module _ (F : FileLimits) (m : Mark) (s : Stage) (n len : ℕ) (rest : List ℕ) where
+  pub body-cut : length rest < len → bodyOf F m s n len rest ≡ faulty cutShort
+  unfolding bodyOf
+  body-cut h = rw (lt-ltb (length rest) len h, bodyOf)
+
+  pub body-wrong : (r : Refusal) → len ≤ length rest → bodyFault F m n (take len rest) ≡ some r → bodyOf F m s n len rest ≡ faulty r
+  unfolding bodyOf
+  body-wrong r h e = rw (le-ltb (length rest) len h, e, bodyOf)
+
+  pub body-right : len ≤ length rest → bodyFault F m n (take len rest) ≡ none → bodyOf F m s n len rest ≡ whole m s (take len rest)
+  unfolding bodyOf
+  body-right h e = rw (le-ltb (length rest) len h, e, bodyOf)
+
+-- ---- an entry
+module _ (F : FileLimits) (stage : Stage) (n : ℕ) (bytes : List ℕ) where
+  pub entry-cut : length bytes < 4 → entryOf F stage n bytes ≡ faulty cutShort
+  unfolding entryOf
+  entry-cut h = rw (lt-ltb (length bytes) 4 h, entryOf)
+
+  pub entry-unknown : 4 ≤ length bytes → markOf (getD bytes 0 0) (getD bytes 1 0) ≡ none → entryOf F stage n bytes ≡ faulty unknownMark
+  unfolding entryOf
+  entry-unknown h e = rw (le-ltb (length bytes) 4 h, e, entryOf)
+
+  pub entry-out : {m : Mark} → 4 ≤ length bytes → markOf (getD bytes 0 0) (getD bytes 1 0) ≡ some m → after stage m ≡ none → entryOf F stage n bytes ≡ faulty outOfPlace
+  unfolding entryOf
+  entry-out h e f = rw (le-ltb (length bytes) 4 h, e, f, entryOf)
+
+  pub entry-length : {m : Mark} {s : Stage} {len : ℕ} → 4 ≤ length bytes → markOf (getD bytes 0 0) (getD bytes 1 0) ≡ some m → after stage m ≡ some s
+      → len ≡ number (take 2 (drop 2 bytes)) → rightLength F m len ≡ false → entryOf F stage n bytes ≡ faulty wrongLength
+  unfolding entryOf
+  entry-length h e f l g = rw (le-ltb (length bytes) 4 h, e, f, ← l, g, entryOf)
+
+  pub entry-body : {m : Mark} {s : Stage} {len : ℕ} → 4 ≤ length bytes → markOf (getD bytes 0 0) (getD bytes 1 0) ≡ some m → after stage m ≡ some s
+      → len ≡ number (take 2 (drop 2 bytes)) → rightLength F m len ≡ true → entryOf F stage n bytes ≡ bodyOf F m s n len (drop 4 bytes)
+  unfolding entryOf
+  entry-body h e f l g = rw l (rw (le-ltb (length bytes) 4 h, e, f, rw l at g, entryOf))
+
+-- ---- the bytes that are left
+module _ (F : FileLimits) (k : ℕ) (stage : Stage) (lot : Lot) (bytes : List ℕ) where
+  pub read-ended : hasEnded stage ≡ true → readFrom F (suc k) stage lot bytes ≡ ending lot bytes
+  unfolding readFrom
+  read-ended e = rw (e, readFrom)
+
+  pub read-faulty : {r : Refusal} → hasEnded stage ≡ false → entryOf F stage (length (lot .elements) / 8) bytes ≡ faulty r → readFrom F (suc k) stage lot bytes ≡ refused r
+  unfolding readFrom
+  read-faulty e f = rw (e, f, readFrom)
+
+  pub read-whole : {m : Mark} {s : Stage} {body : List ℕ} → hasEnded stage ≡ false → entryOf F stage (length (lot .elements) / 8) bytes ≡ whole m s body
+      → readFrom F (suc k) stage lot bytes ≡ readFrom F k s (taken m body lot) (drop (4 + length body) bytes)
+  unfolding readFrom
+  read-whole e f = rw (e, f, readFrom)
+
+pub read-long : (F : FileLimits) (file : List ℕ) → F .bytes < length file → readLot F file ≡ refused tooLong
+unfolding readLot
+read-long F file h = rw (lt-ltb (F .bytes) (length file) h, readLot)
+
+pub read-start : (F : FileLimits) (file : List ℕ) → length file ≤ F .bytes → readLot F file ≡ readFrom F (suc (length file)) atLabel noLot file
+unfolding readLot
+read-start F file h = rw (le-ltb (F .bytes) (length file) h, readLot)
+
+-- ---- the lent space; the lengths of the two lent runs
+module _ (F : FileLimits) (file : List ℕ) (nodes elements : ℕ) where
+  pub reading-refused : {r : Refusal} → readLot F file ≡ refused r → reading F file nodes elements ≡ refused r
+  unfolding reading
+  reading-refused e = rw (e, reading)
+
+  module _ {lot : Lot} (good : readLot F file ≡ accepted lot) where
+    pub reading-no-nodes : nodes < length (lot .nodes) → reading F file nodes elements ≡ refused noRoom
+    unfolding reading
+    reading-no-nodes h = rw (good, lt-leb (length (lot .nodes)) nodes h, reading)
+
+    pub reading-no-elements : elements < length (lot .elements) → length (lot .nodes) ≤ nodes → reading F file nodes elements ≡ refused noRoom
+    unfolding reading
+    reading-no-elements h k = rw (good, le-leb (length (lot .nodes)) nodes k, lt-leb (length (lot .elements)) elements h, reading)
+
+    pub reading-fits : length (lot .nodes) ≤ nodes → length (lot .elements) ≤ elements → reading F file nodes elements ≡ accepted lot
+    unfolding reading
+    reading-fits h k = rw (good, le-leb (length (lot .nodes)) nodes h, le-leb (length (lot .elements)) elements k, reading)
