@@ -1,7 +1,7 @@
 -- How far the handing out of a file without fault has come: what was read so far lies over the lent words. Assumes nothing.
 use mathlib.Core.Path.{_≡_, refl, sym, _∙_, ap, ap₂, subst}
 use mathlib.Core.Bool.{true, false}
-use mathlib.Core.List.{List, [], _∷_, _++_}
+use mathlib.Core.List.{List, [], _∷_, _++_, map}
 use mathlib.Core.Option.{Option, none, some}
 use Prim.Native.Nat.{ℕ, zero, suc, _+_, _-_, _*_, _/_, _≤_, _<_}
 use native.Mathlib.Omega.{arith}
@@ -35,17 +35,14 @@ module _ {A : Type 0} where
   drop-take (suc n) m (x ∷ l) = let e : suc n + m ≡ suc (n + m) = omega arith in rw e (drop-take n m l)
 
 -- ---- an entry's numbers, from its body alone
-signeds-take : (n : ℕ) (bs : List ℕ) → signeds n (take (4 * n) bs) ≡ signeds n bs
-signeds-take zero bs = refl
-signeds-take (suc n) bs =
-    let e : 4 * suc n ≡ 4 + 4 * n = omega arith in
-    rw e (ap₂ (λ x l. signed (number x) ∷ l) (take-take 4 (4 + 4 * n) bs (omega arith)) (ap (signeds n) (drop-take 4 (4 * n) bs) ∙ signeds-take n (drop 4 bs)))
-
 unsigneds-take : (n : ℕ) (bs : List ℕ) → unsigneds n (take (4 * n) bs) ≡ unsigneds n bs
 unsigneds-take zero bs = refl
 unsigneds-take (suc n) bs =
     let e : 4 * suc n ≡ 4 + 4 * n = omega arith in
     rw e (ap₂ (λ x l. number x ∷ l) (take-take 4 (4 + 4 * n) bs (omega arith)) (ap (unsigneds n) (drop-take 4 (4 * n) bs) ∙ unsigneds-take n (drop 4 bs)))
+
+signeds-take : (n : ℕ) (bs : List ℕ) → signeds n (take (4 * n) bs) ≡ signeds n bs
+signeds-take n bs = ap (map signed) (unsigneds-take n bs)
 
 module _ (bytes body : List ℕ) (stands : take (length body) (drop 4 bytes) ≡ body) where
   numbers-in-body : (m : Mark) → rightLength lotFile m (length body) ≡ true → (newNodes m (drop 4 bytes) ≡ newNodes m body) × (newElements m (drop 4 bytes) ≡ newElements m body)
@@ -132,6 +129,9 @@ module _ {file : List ℕ} {nodes₀ : List ℤ} {elements₀ : List ℕ} (out :
       is-whole : IsWhole lotFile (x .stage) (length (x .lot .elements) / 8) (drop at file) m (n .then) (n .body)
       is-whole = whole-is (n .found)
 
+      pub right-here : rightLength lotFile m len ≡ true
+      right-here = subst (λ (k : ℕ). rightLength lotFile m k ≡ true) (n .long) (is-whole .right)
+
       pub within-file : at + 4 + len ≤ length file
       within-file = omega (arith, is-whole .fits, length-drop at file, n .long, x .reached .within)
 
@@ -151,7 +151,7 @@ module _ {file : List ℕ} {nodes₀ : List ℤ} {elements₀ : List ℕ} (out :
       handed-fits =
           let g = reached-grows lotFile file out good reached-then in
           let filled = filled-taken (n .body) (x .lot) m f (x .filled) in
-          fitting m (subst (λ (k : ℕ). rightLength lotFile m k ≡ true) (n .long) (is-whole .right)) (omega (arith, g .0, room .0, same-nodes, filled .0), omega (arith, g .1, room .1, same-elements, filled .1))
+          fitting m right-here (omega (arith, g .0, room .0, same-nodes, filled .0), omega (arith, g .1, room .1, same-elements, filled .1))
 
       pub handed-then : {nodes′ : List ℤ} {elements′ : List ℕ} {f′ : Filled} → nodes′ ≡ put (f .nodes) (newNodes m (drop (at + 4) file)) nodes → elements′ ≡ put (f .elements) (newElements m (drop (at + 4) file)) elements → f′ ≡ filledOf m f
           → Handed file nodes₀ elements₀ nodes′ elements′ (at + 4 + len) f′

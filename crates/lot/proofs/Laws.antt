@@ -1,17 +1,19 @@
 -- The numbers that bytes stand for, byte by byte, and a name from one of its bytes on. Assumes nothing.
 use mathlib.Core.Path.{_≡_, refl, sym, _∙_, ap, ap₂}
-use mathlib.Core.Bool.{true, false}
+use mathlib.Core.Bool.{Bool, true, false, _&&_}
+use mathlib.Core.Option.{none}
 use mathlib.Core.List.{List, [], _∷_, _++_}
-use Prim.Native.Nat.{ℕ, zero, suc, _+_, _-_, _*_, _≤_, _<_}
+use Prim.Native.Nat.{ℕ, zero, suc, _+_, _-_, _*_, _/_, _%_, _≤_, _<_}
 use native.Mathlib.Nat.{zero-add}
 use native.Mathlib.Numerals.{add-one}
 use native.Mathlib.Omega.{arith}
-use borrow.Author.Tests.{le-ltb}
+use borrow.Author.Tests.{le-ltb, eqb-true}
+use lib.Dec.{eqb}
 use lib.ListN.{getD, length, set, take, drop, length-drop}
 use lib.Seq.{drop-cons, drop-drop, drop-length, getD-drop, paste, paste-suc}
 use lib.IntN.{ℤ, pos, negsuc, _-ℤ_}
 use Rattle.lotfile.specs.Numbers.{number, signed, unsigneds, signeds}
-use Rattle.lotfile.specs.Format.{markOf, nameByte, nameBytes}
+use Rattle.lotfile.specs.Format.{Mark, LB, ND, HX, EN, letters, isMark, markOf, nameByte, nameBytes}
 
 -- the first two bytes from a place on
 pub drop-two : (xs : List ℕ) (at : ℕ) → at + 2 ≤ length xs → drop at xs ≡ getD xs at 0 ∷ getD xs (at + 1) 0 ∷ drop (at + 2) xs
@@ -31,9 +33,28 @@ number-four xs at h =
     ap (λ (l : List ℕ). number (take 4 l)) (first ∙ ap (λ (l : List ℕ). getD xs at 0 ∷ getD xs (at + 1) 0 ∷ l) second)
     ∙ omega (arith, number-two xs at (omega arith), number-two xs (at + 2) (omega arith))
 
+-- a number whose low and high byte are the letters of no mark
+letters-number : (m : Mark) → number (letters m) ≡ getD (letters m) 0 0 + 256 * getD (letters m) 1 0
+letters-number LB = refl
+letters-number ND = refl
+letters-number HX = refl
+letters-number EN = refl
+
+not-mark : (x : ℕ) (m : Mark) → (x ≡ number (letters m) → ⊥) → isMark m (x % 256) (x / 256) ≡ false
+not-mark x m h = go (eqb (x % 256) (getD (letters m) 0 0)) refl (eqb (x / 256) (getD (letters m) 1 0)) refl
+  where
+    go : (s : Bool) → eqb (x % 256) (getD (letters m) 0 0) ≡ s → (t : Bool) → eqb (x / 256) (getD (letters m) 1 0) ≡ t → (s && t) ≡ false
+    go false p t q = refl
+    go true p false q = refl
+    go true p true q = absurd (h (omega (arith, letters-number m, eqb-true (x % 256) _ p, eqb-true (x / 256) _ q)))
+
+pub mark-none : (x : ℕ) → (x ≡ 17486 → ⊥) → (x ≡ 22600 → ⊥) → (x ≡ 16972 → ⊥) → (x ≡ 20037 → ⊥) → markOf (x % 256) (x / 256) ≡ none
+unfolding markOf
+mark-none x nd hx lb en = rw (not-mark x LB lb, not-mark x ND nd, not-mark x HX hx, not-mark x EN en, markOf)
+
 -- the mark, and what is left, from a place on
-pub mark-drop : (xs : List ℕ) (at : ℕ) → markOf (getD (drop at xs) 0 0) (getD (drop at xs) 1 0) ≡ markOf (getD xs at 0) (getD xs (at + 1) 0)
-mark-drop xs at = let e : at + 0 ≡ at = omega arith in ap₂ markOf (getD-drop at xs 0 0 ∙ ap (λ (i : ℕ). getD xs i 0) e) (getD-drop at xs 1 0)
+pub mark-drop : (xs : List ℕ) (at x : ℕ) → x % 256 ≡ getD xs at 0 → x / 256 ≡ getD xs (at + 1) 0 → markOf (x % 256) (x / 256) ≡ markOf (getD (drop at xs) 0 0) (getD (drop at xs) 1 0)
+mark-drop xs at x low high = let e : at + 0 ≡ at = omega arith in ap₂ markOf (low ∙ sym (getD-drop at xs 0 0 ∙ ap (λ (i : ℕ). getD xs i 0) e)) (high ∙ sym (getD-drop at xs 1 0))
 
 pub length-rest : (xs : List ℕ) (at n : ℕ) → length (drop n (drop at xs)) ≡ length xs - (at + n)
 length-rest xs at n = ap length (drop-drop n at xs) ∙ length-drop (at + n) xs

@@ -4,7 +4,8 @@
 // none and the lent space is large enough, to hand out its nodes and elements.
 ghost use mathlib.Core.Path.{_≡_};
 ghost use mathlib.Core.List.{_++_, _∷_, []};
-ghost use Prim.Native.Nat.{ℕ, _+_, _-_, _*_, _^_, _≤_, _<_};
+ghost use mathlib.Core.Bool.{true};
+ghost use Prim.Native.Nat.{ℕ, _+_, _/_, _%_, _≤_, _<_};
 ghost use lib.ListN.{length, getD, take, drop};
 ghost use Rattle.lotfile.specs.Numbers.{number, signed, unsigneds, signeds};
 ghost use Rattle.lotfile.specs.Format.{lotFile, markOf, rightLength, after as afterOf, nameByte, nameBytes};
@@ -17,6 +18,15 @@ pub const MAX_BYTES: usize = 65536;
 pub const MAX_NAME: usize = 32;
 
 pub const MAX_ELEMENTS: usize = 1000;
+
+// The two letters of each mark as a number, low byte first.
+const LETTERS_LB: u32 = 16972;
+
+const LETTERS_ND: u32 = 17486;
+
+const LETTERS_HX: u32 = 22600;
+
+const LETTERS_EN: u32 = 20037;
 
 // Why a lot is refused.
 pub enum Refusal {
@@ -138,19 +148,20 @@ fn signed_word(x: u32) -> i32
     }
 }
 
-fn mark_of(a: u8, b: u8) -> Marked
-    ensures { λ r. ⌜ markedHeld r ≡ markOf a b ⌝ }
+// The mark whose two letters are the low and the high byte of a number.
+fn mark_of(letters: u32) -> Marked
+    ensures { λ r. ⌜ markedHeld r ≡ markOf (letters % 256) (letters / 256) ⌝ }
 {
-    if (a == 76) & (b == 66) {
-        return Marked::Known(Mark::LB);
-    }
-    if (a == 78) & (b == 68) {
+    if letters == LETTERS_ND {
         return Marked::Known(Mark::ND);
     }
-    if (a == 72) & (b == 88) {
+    if letters == LETTERS_HX {
         return Marked::Known(Mark::HX);
     }
-    if (a == 69) & (b == 78) {
+    if letters == LETTERS_LB {
+        return Marked::Known(Mark::LB);
+    }
+    if letters == LETTERS_EN {
         return Marked::Known(Mark::EN);
     }
     Marked::Unknown
@@ -192,6 +203,20 @@ fn right_length(mark: Mark, n: usize) -> bool
         Mark::ND => n == 12,
         Mark::HX => n == 32,
         Mark::EN => n == 0,
+    }
+}
+
+// The length of an entry's body, where it gives n and that is right. For all but a label this is known from the mark, so that the next
+// entry is found without waiting for n to be read.
+fn body_length(mark: Mark, n: usize) -> usize
+    requires { ⌜ rightLength lotFile (markHeld mark) n ≡ true ⌝ }
+    ensures { λ r. ⌜ r ≡ n ⌝ }
+{
+    match mark {
+        Mark::LB => n,
+        Mark::ND => 12,
+        Mark::HX => 32,
+        Mark::EN => 0,
     }
 }
 
@@ -243,9 +268,7 @@ fn mark_at(file: &[u8], at: usize) -> Marked
     requires { ⌜ at + 2 ≤ length (now file) ⌝ }
     ensures { λ r. ⌜ markedHeld r ≡ markOf (getD (drop at (now (file .entry))) 0 0) (getD (drop at (now (file .entry))) 1 0) ⌝ }
 {
-    let a = file[at];
-    let b = file[at + 1];
-    mark_of(a, b)
+    mark_of(short_at(file, at))
 }
 
 // The length that the entry at a place gives for its body.
@@ -292,7 +315,8 @@ fn entry_at(file: &[u8], at: usize, stage: Stage, elements: usize) -> Entry
                 Place::In(next) => {
                     let len = length_at(file, at);
                     if right_length(mark, len) {
-                        body_at(file, at, mark, next, elements, len)
+                        let n = body_length(mark, len);
+                        body_at(file, at, mark, next, elements, n)
                     } else {
                         Entry::Faulty(Refusal::WrongLength)
                     }
@@ -449,7 +473,7 @@ fn hand_out(file: &[u8], nodes: &mut [i32], elements: &mut [u32])
         let Marked::Known(mark) = marked else {
             return;
         };
-        let len = length_at(file, at);
+        let len = body_length(mark, length_at(file, at));
         filled = put_entry(file, at + 4, mark, nodes, elements, filled);
         at = at + 4 + len;
     }

@@ -95,15 +95,16 @@ nameBytes (b ∷ bs) = elim (nameByte b) [ true ↦ nameBytes bs | false ↦ fal
 abbrev pub entryBytes : Mark → List ℕ → List ℕ
 entryBytes m body = letters m ++ (numberBytes 2 (length body) ++ body)
 
--- one entry for each of n nodes, and of n elements
-abbrev pub nodeEntries : ℕ → List ℤ → List ℕ
-nodeEntries zero xs = []
-nodeEntries (suc n) xs = entryBytes ND (signedBytes (take 3 xs)) ++ nodeEntries n (drop 3 xs)
+-- n entries of one mark, each with the bytes of the next k numbers
+abbrev pub entries : {A : Type 0} → Mark → ℕ → (List A → List ℕ) → ℕ → List A → List ℕ
+entries m k bytes zero xs = []
+entries m k bytes (suc n) xs = entryBytes m (bytes (take k xs)) ++ entries m k bytes n (drop k xs)
 
-abbrev pub elementEntries : ℕ → List ℕ → List ℕ
-elementEntries zero xs = []
-elementEntries (suc n) xs = entryBytes HX (unsignedBytes (take 8 xs)) ++ elementEntries n (drop 8 xs)
+abbrev pub nodeEntries : List ℤ → List ℕ
+nodeEntries xs = entries ND 3 signedBytes (length xs / 3) xs
+
+abbrev pub elementEntries : List ℕ → List ℕ
+elementEntries xs = entries HX 8 unsignedBytes (length xs / 8) xs
 
 unfoldable pub written : Lot → List ℕ
-written lot =
-    entryBytes LB (lot .label) ++ (nodeEntries (length (lot .nodes) / 3) (lot .nodes) ++ (elementEntries (length (lot .elements) / 8) (lot .elements) ++ entryBytes EN []))
+written lot = entryBytes LB (lot .label) ++ (nodeEntries (lot .nodes) ++ (elementEntries (lot .elements) ++ entryBytes EN []))

@@ -1,7 +1,7 @@
 -- Bytes and the numbers that they stand for: each is had from the other.
 use mathlib.Core.Path.{_≡_, refl, sym, _∙_, ap, ap₂}
 use mathlib.Core.Bool.{Bool, true, false}
-use mathlib.Core.List.{List, [], _∷_, _++_}
+use mathlib.Core.List.{List, [], _∷_, _++_, map}
 use Prim.Native.Nat.{ℕ, zero, suc, _+_, _-_, _*_, _/_, _%_, _^_, _<_, _≤_}
 use native.Mathlib.Nat.{pow-suc}
 use native.Mathlib.Omega.{arith}
@@ -13,7 +13,7 @@ use lib.Signed.{mag}
 use mir.Syntax.{w32}
 use mir.Val.{sel, toZ, ofZ}
 use mir.Facts.{toZ-ofZ, ofZ-toZ, sfits-toZ}
-use Rattle.foundation.specs.Lists.{All, all-left, all-right, getD-all}
+use Rattle.foundation.specs.Lists.{All, all-left, all-right, all-map, all-image, getD-all}
 use Rattle.lotfile.specs.Numbers.{Byte, number, numberBytes, signed, bits, unsigneds, signeds, unsignedBytes, signedBytes}
 
 pub bytes-take : (n : ℕ) (bs : List ℕ) → All Byte bs → All Byte (take n bs)
@@ -66,14 +66,6 @@ pub signed-small : (x : ℕ) → x < 2 ^ 32 → mag (signed x) < 2 ^ 31
 signed-small x h = rw signed-toZ (sfits-toZ {w = w32} (record { fits = h }) .sfits)
 
 -- ---- many numbers
-pub length-unsigneds : (n : ℕ) (bs : List ℕ) → length (unsigneds n bs) ≡ n
-length-unsigneds zero bs = refl
-length-unsigneds (suc n) bs = ap suc (length-unsigneds n (drop 4 bs))
-
-pub length-signeds : (n : ℕ) (bs : List ℕ) → length (signeds n bs) ≡ n
-length-signeds zero bs = refl
-length-signeds (suc n) bs = ap suc (length-signeds n (drop 4 bs))
-
 pub word-small : (bs : List ℕ) → All Byte bs → number (take 4 bs) < 2 ^ 32
 word-small bs h = number-small 4 (take 4 bs) (bytes-take 4 bs h) (simp length-take (omega arith))
 
@@ -82,8 +74,7 @@ unsigneds-small zero bs h = tt
 unsigneds-small (suc n) bs h = (word-small bs h, unsigneds-small n (drop 4 bs) (bytes-drop 4 bs h))
 
 pub signeds-small : (n : ℕ) (bs : List ℕ) → All Byte bs → All (λ z. mag z < 2 ^ 31) (signeds n bs)
-signeds-small zero bs h = tt
-signeds-small (suc n) bs h = (signed-small (number (take 4 bs)) (word-small bs h), signeds-small n (drop 4 bs) (bytes-drop 4 bs h))
+signeds-small n bs h = all-image (λ z. mag z < 2 ^ 31) signed (unsigneds n bs) (all-map (λ x. x < 2 ^ 32) (λ x. mag (signed x) < 2 ^ 31) signed-small (unsigneds n bs) (unsigneds-small n bs h))
 
 word-bytes : (bs : List ℕ) → All Byte bs → 4 ≤ length bs → numberBytes 4 (number (take 4 bs)) ≡ take 4 bs
 word-bytes bs h l = ap (λ n. numberBytes n (number (take 4 bs))) (sym (length-take-le 4 bs l)) ∙ numberBytes-number (take 4 bs) (bytes-take 4 bs h)
@@ -93,9 +84,9 @@ unsignedBytes-unsigneds zero [] h l = refl
 unsignedBytes-unsigneds zero (b ∷ bs) h l = absurd (omega arith)
 unsignedBytes-unsigneds (suc n) bs h l = ap₂ _++_ (word-bytes bs h (omega arith)) (unsignedBytes-unsigneds n (drop 4 bs) (bytes-drop 4 bs h) (simp length-drop (omega arith))) ∙ take-append-drop 4 bs
 
-signedBytes-same : (n : ℕ) (bs : List ℕ) → All Byte bs → signedBytes (signeds n bs) ≡ unsignedBytes (unsigneds n bs)
-signedBytes-same zero bs h = refl
-signedBytes-same (suc n) bs h = ap₂ (λ x l. numberBytes 4 x ++ l) (bits-signed (number (take 4 bs)) (word-small bs h)) (signedBytes-same n (drop 4 bs) (bytes-drop 4 bs h))
+bits-back : (xs : List ℕ) → All (λ x. x < 2 ^ 32) xs → map bits (map signed xs) ≡ xs
+bits-back [] h = refl
+bits-back (x ∷ xs) h = ap₂ _∷_ (bits-signed x (h .0)) (bits-back xs (h .1))
 
 pub signedBytes-signeds : (n : ℕ) (bs : List ℕ) → All Byte bs → length bs ≡ 4 * n → signedBytes (signeds n bs) ≡ bs
-signedBytes-signeds n bs h l = signedBytes-same n bs h ∙ unsignedBytes-unsigneds n bs h l
+signedBytes-signeds n bs h l = ap unsignedBytes (bits-back (unsigneds n bs) (unsigneds-small n bs h)) ∙ unsignedBytes-unsigneds n bs h l

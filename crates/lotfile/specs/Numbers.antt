@@ -1,10 +1,11 @@
 -- Document 01, "House rules for later papers": "Numbers in our files stand low byte first." Bytes are numbers below 256.
 use mathlib.Core.Bool.{true, false}
-use mathlib.Core.List.{List, [], _∷_, _++_}
+use mathlib.Core.List.{List, [], _∷_, map}
 use Prim.Native.Nat.{ℕ, zero, suc, _+_, _-_, _*_, _/_, _%_, _^_, _<_}
 use lib.Dec.{ltb}
 use lib.ListN.{take, drop}
 use lib.IntN.{ℤ, pos, negsuc}
+use Rattle.foundation.specs.Lists.{concatMap}
 
 abbrev pub Byte : ℕ → Type 0
 Byte b = b < 256
@@ -33,14 +34,11 @@ unsigneds zero bs = []
 unsigneds (suc n) bs = number (take 4 bs) ∷ unsigneds n (drop 4 bs)
 
 abbrev pub signeds : ℕ → List ℕ → List ℤ
-signeds zero bs = []
-signeds (suc n) bs = signed (number (take 4 bs)) ∷ signeds n (drop 4 bs)
+signeds n bs = map signed (unsigneds n bs)
 
 -- their bytes
 abbrev pub unsignedBytes : List ℕ → List ℕ
-unsignedBytes [] = []
-unsignedBytes (x ∷ xs) = numberBytes 4 x ++ unsignedBytes xs
+unsignedBytes xs = concatMap (numberBytes 4) xs
 
 abbrev pub signedBytes : List ℤ → List ℕ
-signedBytes [] = []
-signedBytes (x ∷ xs) = numberBytes 4 (bits x) ++ signedBytes xs
+signedBytes xs = unsignedBytes (map bits xs)

@@ -1,12 +1,13 @@
 -- `entry_at` meets its contract: each return has the tests and cases that led to it. Assumes nothing.
-use mathlib.Core.Path.{sym, _∙_, ap}
-use Prim.Native.Nat.{_≤_}
+use mathlib.Core.Path.{_≡_, sym, _∙_, ap, subst}
+use mathlib.Core.Bool.{true}
+use Prim.Native.Nat.{ℕ, _≤_}
 use native.Mathlib.Omega.{arith}
 use borrow.Author.Needs.{needs}
 use lib.ListN.{length, drop, length-drop}
-use Rattle.lotfile.specs.Format.{lotFile}
+use Rattle.lotfile.specs.Format.{lotFile, rightLength}
 use Rattle.lotfile.specs.Steps.{entry-cut, entry-unknown, entry-out, entry-length, entry-body}
-use Rattle.lot.specs.Meaning.{markedHeld, placeHeld}
+use Rattle.lot.specs.Meaning.{markHeld, markedHeld, placeHeld}
 use Rattle.lot.proofs.entry_at.Statement.{statement}
 use Rattle.lot.proofs.entry_at.Tie as tie
 
@@ -42,6 +43,9 @@ length-at-requires c κs = search needs
 right-length-requires : tie.Need-right-length-requires
 right-length-requires c κs = search needs
 
+body-length-requires : tie.Need-body-length-requires
+body-length-requires c κs = sym (c .before .right-length .ensures) ∙ c .if2 .taken
+
 body-at-requires : tie.Need-body-at-requires
 body-at-requires c κs = search needs
 
@@ -61,12 +65,13 @@ returns-3 c =
 
 returns-4 : tie.Need-returns-4
 returns-4 c =
-    let s = c .before .before .before .before .before .before .before .before .before .before .before .before .before .before in
+    let s = c .before .before .before .before .before .before .before .before .before .before .before .before .before .before .before in
     let room : 4 ≤ length (drop (s .args .at) (s .args .file .now)) = omega (arith, length-drop (s .args .at) (s .args .file .now)) in
-    let known = sym (c .before .before .before .before .before .before .before .before .before .before .before .mark-at .ensures) ∙ ap markedHeld (c .before .before .before .before .before .before .before .before .before .marked .given .1) in
-    let here = sym (c .before .before .before .before .before .before .before .after .ensures) ∙ ap placeHeld (c .before .before .before .before .before .place .given .1) in
-    let right = sym (c .before .before .right-length .ensures) ∙ c .before .if2 .taken in
-    (c .body-at .ensures .0 ∙ sym (entry-body lotFile _ _ _ room known here (c .before .before .before .length-at .ensures .0) right), c .body-at .ensures .1)
+    let known = sym (c .before .before .before .before .before .before .before .before .before .before .before .before .mark-at .ensures) ∙ ap markedHeld (c .before .before .before .before .before .before .before .before .before .before .marked .given .1) in
+    let here = sym (c .before .before .before .before .before .before .before .before .after .ensures) ∙ ap placeHeld (c .before .before .before .before .before .before .place .given .1) in
+    let len = c .before .body-length .ensures in
+    let right = subst (λ (n : ℕ). rightLength lotFile (markHeld (c .before .before .before .before .before .before .before .before .before .before .marked .given .0 .0)) n ≡ true) (sym len) (sym (c .before .before .before .right-length .ensures) ∙ c .before .before .if2 .taken) in
+    (c .body-at .ensures .0 ∙ sym (entry-body lotFile _ _ _ room known here (len ∙ c .before .before .before .before .length-at .ensures .0) right), c .body-at .ensures .1)
 
 returns-5 : tie.Need-returns-5
 returns-5 c =
@@ -91,6 +96,7 @@ entry-at-spec =
     enum-known-place
     length-at-requires
     right-length-requires
+    body-length-requires
     body-at-requires
     returns-2
     returns-3

@@ -5,7 +5,7 @@ use native.Mathlib.Omega.{arith}
 use borrow.Author.Needs.{needs}
 use lib.ListN.{length}
 use Rattle.lot.specs.Meaning.{markHeld, markedHeld}
-use Rattle.lot.proofs.Handed.{Handed, not-unknown, here, handed-start, handed-next, four-left, same-nodes, same-elements, handed-all, within-file, handed-fits, handed-then}
+use Rattle.lot.proofs.Handed.{Handed, not-unknown, here, handed-start, handed-next, four-left, same-nodes, same-elements, handed-all, right-here, within-file, handed-fits, handed-then}
 use Rattle.lot.proofs.hand_out.Statement.{statement}
 use Rattle.lot.proofs.hand_out.Tie as tie
 
@@ -55,48 +55,55 @@ length-at-requires c κs =
     let x = c .before .before .before .before .before .loop .inv in
     four-left _ (s .pre .0) (s .pre .1) x (omega arith)
 
-add-put-entry : tie.Need-add-put-entry Inv-loop μ-loop
-add-put-entry c =
+body-length-requires : tie.Need-body-length-requires Inv-loop μ-loop
+body-length-requires c κs =
     let s = c .before .before .before .before .before .before .before .before .before in
     let x = c .before .before .before .before .before .before .loop .inv in
+    let entry = here (handed-next _ (s .pre .0) (s .pre .1) x (omega arith)) (markHeld (c .before .before .marked .given .0 .0)) _ (sym (c .before .before .before .before .mark-at .ensures) ∙ ap markedHeld (c .before .before .marked .given .1)) (c .length-at .ensures .0) in
+    right-here _ (s .pre .0) (s .pre .1) x entry
+
+add-put-entry : tie.Need-add-put-entry Inv-loop μ-loop
+add-put-entry c =
+    let s = c .before .before .before .before .before .before .before .before .before .before in
+    let x = c .before .before .before .before .before .before .before .loop .inv in
     let four = four-left _ (s .pre .0) (s .pre .1) x (omega arith) in
     omega (arith, four)
 
 put-entry-requires : tie.Need-put-entry-requires Inv-loop μ-loop
 put-entry-requires c κs =
-    let s = c .before .before .before .before .before .before .before .before .before .before .before in
-    let x = c .before .before .before .before .before .before .before .before .loop .inv in
-    let entry = here (handed-next _ (s .pre .0) (s .pre .1) x (omega arith)) (markHeld (c .before .before .before .before .marked .given .0 .0)) (c .before .before .length-at .result) (sym (c .before .before .before .before .before .before .mark-at .ensures) ∙ ap markedHeld (c .before .before .before .before .marked .given .1)) (c .before .before .length-at .ensures .0) in
+    let s = c .before .before .before .before .before .before .before .before .before .before .before .before in
+    let x = c .before .before .before .before .before .before .before .before .before .loop .inv in
+    let entry = here (handed-next _ (s .pre .0) (s .pre .1) x (omega arith)) (markHeld (c .before .before .before .before .before .marked .given .0 .0)) _ (sym (c .before .before .before .before .before .before .before .mark-at .ensures) ∙ ap markedHeld (c .before .before .before .before .before .marked .given .1)) (c .before .before .body-length .ensures ∙ c .before .before .before .length-at .ensures .0) in
     handed-fits _ (s .pre .0) (s .pre .1) x entry
 
 add-at : tie.Need-add-at Inv-loop μ-loop
 add-at c =
-    let s = c .before .before .before .before .before .before .before .before .before .before .before .before .before .before .before in
-    let x = c .before .before .before .before .before .before .before .before .before .before .before .before .loop .inv in
+    let s = c .before .before .before .before .before .before .before .before .before .before .before .before .before .before .before .before in
+    let x = c .before .before .before .before .before .before .before .before .before .before .before .before .before .loop .inv in
     let four = four-left _ (s .pre .0) (s .pre .1) x (omega arith) in
     omega (arith, four)
 
 add-at-2 : tie.Need-add-at-2 Inv-loop μ-loop
 add-at-2 c =
-    let s = c .before .before .before .before .before .before .before .before .before .before .before .before .before .before .before in
-    let x = c .before .before .before .before .before .before .before .before .before .before .before .before .loop .inv in
-    let entry = here (handed-next _ (s .pre .0) (s .pre .1) x (omega arith)) (markHeld (c .before .before .before .before .before .before .before .before .marked .given .0 .0)) (c .before .before .before .before .before .before .length-at .result) (sym (c .before .before .before .before .before .before .before .before .before .before .mark-at .ensures) ∙ ap markedHeld (c .before .before .before .before .before .before .before .before .marked .given .1)) (c .before .before .before .before .before .before .length-at .ensures .0) in
+    let s = c .before .before .before .before .before .before .before .before .before .before .before .before .before .before .before .before in
+    let x = c .before .before .before .before .before .before .before .before .before .before .before .before .before .loop .inv in
+    let entry = here (handed-next _ (s .pre .0) (s .pre .1) x (omega arith)) (markHeld (c .before .before .before .before .before .before .before .before .before .marked .given .0 .0)) _ (sym (c .before .before .before .before .before .before .before .before .before .before .before .mark-at .ensures) ∙ ap markedHeld (c .before .before .before .before .before .before .before .before .before .marked .given .1)) (c .before .before .before .before .before .before .body-length .ensures ∙ c .before .before .before .before .before .before .before .length-at .ensures .0) in
     let end = within-file _ (s .pre .0) (s .pre .1) x entry in
     omega (arith, end)
 
 loop-less : tie.Need-loop-less Inv-loop μ-loop
 loop-less c =
-    let s = c .before .before .before .before .before .before .before .before .before .before .before .before .before .before .before in
-    let x = c .before .before .before .before .before .before .before .before .before .before .before .before .loop .inv in
-    let entry = here (handed-next _ (s .pre .0) (s .pre .1) x (omega arith)) (markHeld (c .before .before .before .before .before .before .before .before .marked .given .0 .0)) (c .before .before .before .before .before .before .length-at .result) (sym (c .before .before .before .before .before .before .before .before .before .before .mark-at .ensures) ∙ ap markedHeld (c .before .before .before .before .before .before .before .before .marked .given .1)) (c .before .before .before .before .before .before .length-at .ensures .0) in
+    let s = c .before .before .before .before .before .before .before .before .before .before .before .before .before .before .before .before in
+    let x = c .before .before .before .before .before .before .before .before .before .before .before .before .before .loop .inv in
+    let entry = here (handed-next _ (s .pre .0) (s .pre .1) x (omega arith)) (markHeld (c .before .before .before .before .before .before .before .before .before .marked .given .0 .0)) _ (sym (c .before .before .before .before .before .before .before .before .before .before .before .mark-at .ensures) ∙ ap markedHeld (c .before .before .before .before .before .before .before .before .before .marked .given .1)) (c .before .before .before .before .before .before .body-length .ensures ∙ c .before .before .before .before .before .before .before .length-at .ensures .0) in
     let end = within-file _ (s .pre .0) (s .pre .1) x entry in
     omega (arith, end)
 
 loop-again : tie.Need-loop-again Inv-loop μ-loop
 loop-again c =
-    let s = c .before .before .before .before .before .before .before .before .before .before .before .before .before .before .before in
-    let x = c .before .before .before .before .before .before .before .before .before .before .before .before .loop .inv in
-    let entry = here (handed-next _ (s .pre .0) (s .pre .1) x (omega arith)) (markHeld (c .before .before .before .before .before .before .before .before .marked .given .0 .0)) (c .before .before .before .before .before .before .length-at .result) (sym (c .before .before .before .before .before .before .before .before .before .before .mark-at .ensures) ∙ ap markedHeld (c .before .before .before .before .before .before .before .before .marked .given .1)) (c .before .before .before .before .before .before .length-at .ensures .0) in
+    let s = c .before .before .before .before .before .before .before .before .before .before .before .before .before .before .before .before in
+    let x = c .before .before .before .before .before .before .before .before .before .before .before .before .before .loop .inv in
+    let entry = here (handed-next _ (s .pre .0) (s .pre .1) x (omega arith)) (markHeld (c .before .before .before .before .before .before .before .before .before .marked .given .0 .0)) _ (sym (c .before .before .before .before .before .before .before .before .before .before .before .mark-at .ensures) ∙ ap markedHeld (c .before .before .before .before .before .before .before .before .before .marked .given .1)) (c .before .before .before .before .before .before .body-length .ensures ∙ c .before .before .before .before .before .before .before .length-at .ensures .0) in
     let put = c .before .before .before .put-entry .ensures in
     handed-then _ (s .pre .0) (s .pre .1) x entry (put .1 .0) (put .1 .1) (put .0)
 
@@ -132,6 +139,7 @@ hand-out-spec =
     same-length-2
     returns
     length-at-requires
+    body-length-requires
     add-put-entry
     put-entry-requires
     add-at

@@ -1,25 +1,31 @@
 -- `mark_at` meets its contract. Assumes nothing.
-use mathlib.Core.Path.{sym, _∙_}
+use mathlib.Core.Path.{_≡_, _∙_}
+use Prim.Native.Nat.{_+_, _/_, _%_}
+use native.Mathlib.Omega.{arith}
 use borrow.Author.Needs.{needs}
-use Rattle.lot.proofs.Laws.{mark-drop}
+use lib.ListN.{getD}
+use Rattle.lot.proofs.Laws.{number-two, mark-drop}
 use Rattle.lot.proofs.mark_at.Statement.{statement}
 use Rattle.lot.proofs.mark_at.Tie as tie
 
-shared-slice-read-a : tie.Need-shared-slice-read-a
-shared-slice-read-a c = search needs
-
-add-b : tie.Need-add-b
-add-b c = search needs
-
-shared-slice-read-b : tie.Need-shared-slice-read-b
-shared-slice-read-b c = search needs
+short-at-requires : tie.Need-short-at-requires
+short-at-requires c κs = search needs
 
 mark-of-requires : tie.Need-mark-of-requires
 mark-of-requires c κs = search needs
 
 returns : tie.Need-returns
-returns c = c .mark-of .ensures ∙ sym (mark-drop (c .before .before .before .before .args .file .now) (c .before .before .before .before .args .at))
+returns c =
+    let s = c .before .before .before in
+    let file = s .args .file .now in
+    let at = s .args .at in
+    let x = c .before .short-at .result in
+    let low = c .before .before .shared-slice-known .given at in
+    let high = c .before .before .shared-slice-known .given (at + 1) in
+    let two = number-two file at (omega arith) in
+    let first : x % 256 ≡ getD file at 0 = omega (arith, c .before .short-at .ensures .0, two, low, high) in
+    let second : x / 256 ≡ getD file (at + 1) 0 = omega (arith, c .before .short-at .ensures .0, two, low, high) in
+    c .mark-of .ensures ∙ mark-drop file at x first second
 
 pub mark-at-spec : {M : Type 1} → statement M
-mark-at-spec =
-    tie.close (tie.spec shared-slice-read-a add-b shared-slice-read-b mark-of-requires returns)
+mark-at-spec = tie.close (tie.spec short-at-requires mark-of-requires returns)
