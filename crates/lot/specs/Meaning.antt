@@ -1,75 +1,17 @@
 -- What the code's answers stand for in the definitions of the lot file.
 use mathlib.Core.Path.{_≡_}
 use mathlib.Core.List.{List, [], _++_}
-use mathlib.Core.Option.{Option, none, some}
 use Prim.Native.Nat.{ℕ, _+_, _*_, _≤_}
 use lib.ListN.{length, take, drop}
 use lib.IntN.{ℤ}
 use Rattle.lotfile.specs.Numbers.{unsigneds, signeds}
-use Rattle.lotfile.specs.Format.{Mark as FileMark, LB as markLB, ND as markND, HX as markHX, EN as markEN, Stage as FileStage, atLabel, atNodes, atElements, atEnd, Lot}
-use Rattle.lotfile.specs.Reading.{Refusal as Why, tooLong, cutShort, unknownMark, wrongLength, outOfPlace, badByte, tooManyElements, noRoom, Entry as FileEntry, faulty, whole, Reading, accepted, refused, handedOut}
-use Rattle.lot.specs.declared.Refusal.{Refusal}
-use Rattle.lot.specs.declared.Refusal.the-variants.{TooLong, CutShort, UnknownMark, WrongLength, OutOfPlace, BadByte, TooManyElements, NoRoom}
-use Rattle.lot.specs.declared.Mark.{Mark}
-use Rattle.lot.specs.declared.Mark.the-variants.{LB, ND, HX, EN}
-use Rattle.lot.specs.declared.Marked.{Marked}
-use Rattle.lot.specs.declared.Marked.the-variants.{Known, Unknown}
-use Rattle.lot.specs.declared.Stage.{Stage}
-use Rattle.lot.specs.declared.Stage.the-variants.{AtLabel, AtNodes, AtElements, AtEnd}
-use Rattle.lot.specs.declared.Place.{Place}
-use Rattle.lot.specs.declared.Place.the-variants.{In, Out}
-use Rattle.lot.specs.declared.Body.{Body}
-use Rattle.lot.specs.declared.Body.the-variants.{Right, Wrong}
-use Rattle.lot.specs.declared.Entry.{Entry}
-use Rattle.lot.specs.declared.Entry.the-variants.{Faulty, Whole}
+use Rattle.lotfile.specs.Format.{Mark as FileMark, LB as markLB, ND as markND, HX as markHX, EN as markEN, Lot}
+use Rattle.lotfile.specs.Reading.{Refusal as Why, Reading, accepted, refused, handedOut}
+use Rattle.entry.specs.Meaning.{refusalHeld}
 use Rattle.lot.specs.declared.Counts.{Counts}
 use Rattle.lot.specs.declared.Filled.{Filled}
 use Rattle.lot.specs.declared.Look.{Look}
 use Rattle.lot.specs.declared.Look.the-variants.{Counted, Refused}
-
-abbrev pub refusalHeld : Refusal → Why
-refusalHeld TooLong = tooLong
-refusalHeld CutShort = cutShort
-refusalHeld UnknownMark = unknownMark
-refusalHeld WrongLength = wrongLength
-refusalHeld OutOfPlace = outOfPlace
-refusalHeld BadByte = badByte
-refusalHeld TooManyElements = tooManyElements
-refusalHeld NoRoom = noRoom
-
-abbrev pub markHeld : Mark → FileMark
-markHeld LB = markLB
-markHeld ND = markND
-markHeld HX = markHX
-markHeld EN = markEN
-
-abbrev pub markedHeld : Marked → Option FileMark
-markedHeld (Known m) = some (markHeld m)
-markedHeld Unknown = none
-
-abbrev pub stageHeld : Stage → FileStage
-stageHeld AtLabel = atLabel
-stageHeld AtNodes = atNodes
-stageHeld AtElements = atElements
-stageHeld AtEnd = atEnd
-
-abbrev pub placeHeld : Place → Option FileStage
-placeHeld (In s) = some (stageHeld s)
-placeHeld Out = none
-
-abbrev pub faultHeld : Body → Option Why
-faultHeld Right = none
-faultHeld (Wrong r) = some (refusalHeld r)
-
--- an entry found in front of the bytes that are left: the body starts past its first four
-abbrev pub entryHeld : List ℕ → Entry → FileEntry
-entryHeld bytes (Faulty r) = faulty (refusalHeld r)
-entryHeld bytes (Whole m s n) = whole (markHeld m) (stageHeld s) (take n (drop 4 bytes))
-
--- and it ends before they do
-abbrev pub Within : List ℕ → Entry → Type 0
-Within bytes (Faulty r) = Unit
-Within bytes (Whole m s n) = 4 + n ≤ length bytes
 
 -- the counts with one entry more, whose body has so many bytes
 abbrev pub countedOf : FileMark → ℕ → Counts → Counts

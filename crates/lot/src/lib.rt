@@ -1,84 +1,24 @@
 // Reading a lot file: the service `read`. Nothing has to be checked first: it takes any bytes and any lent space, and states its whole
 // answer, every word of lent space included, as an equation with `Reading` of the crate `lotfile` at the limits `lotFile`.
-// A record of the file is called an entry here: mark, length, body. A file is looked through twice: first for a fault, then, where it has
-// none and the lent space is large enough, to hand out its nodes and elements.
+// A file is looked through twice: first for a fault, then, where it has none and the lent space is large enough, to hand out its nodes and
+// elements.
 ghost use mathlib.Core.Path.{_≡_};
-ghost use mathlib.Core.List.{_++_, _∷_, []};
-ghost use mathlib.Core.Bool.{true};
-ghost use Prim.Native.Nat.{ℕ, _+_, _/_, _%_, _≤_, _<_};
-ghost use lib.ListN.{length, getD, take, drop};
-ghost use Rattle.lotfile.specs.Numbers.{number, signed, unsigneds, signeds};
-ghost use Rattle.lotfile.specs.Format.{lotFile, markOf, rightLength, after as afterOf, nameByte, nameBytes};
-ghost use Rattle.lotfile.specs.Reading.{bodyFault, bodyOf, entryOf, hasEnded, readLot, reading, handedOut, readingNumbers, laidOver, refusalNumber, roomFor};
-ghost use Rattle.lot.specs.Meaning.{refusalHeld, markHeld, markedHeld, stageHeld, placeHeld, faultHeld, entryHeld, Within, countedOf, lookHeld, lookOf, Few, newNodes, newElements, filledOf, put, Fitting, IsAccepted, HasRoom};
+ghost use mathlib.Core.List.{_++_};
+ghost use Prim.Native.Nat.{_+_, _≤_};
+ghost use lib.ListN.{length, take, drop};
+ghost use Rattle.lotfile.specs.Numbers.{unsigneds, signeds};
+ghost use Rattle.lotfile.specs.Format.{lotFile};
+ghost use Rattle.lotfile.specs.Reading.{readLot, reading, handedOut, readingNumbers, laidOver, refusalNumber};
+ghost use Rattle.entry.specs.Meaning.{refusalHeld, markHeld};
+ghost use Rattle.lot.specs.Meaning.{countedOf, lookHeld, lookOf, Few, newNodes, newElements, filledOf, put, Fitting, IsAccepted, HasRoom};
+use entry::Entry;
+use entry::Mark;
+use entry::Marked;
+use entry::Refusal;
+use entry::Stage;
 
-// The limits of the definitions' `lotFile`.
+// The longest file, as the definitions' `lotFile` has it; its other limits are the crate `entry`'s.
 pub const MAX_BYTES: usize = 65536;
-
-pub const MAX_NAME: usize = 32;
-
-pub const MAX_ELEMENTS: usize = 1000;
-
-// The two letters of each mark as a number, low byte first.
-const LETTERS_LB: u32 = 16972;
-
-const LETTERS_ND: u32 = 17486;
-
-const LETTERS_HX: u32 = 22600;
-
-const LETTERS_EN: u32 = 20037;
-
-// Why a lot is refused.
-pub enum Refusal {
-    TooLong,
-    CutShort,
-    UnknownMark,
-    WrongLength,
-    OutOfPlace,
-    BadByte,
-    TooManyElements,
-    NoRoom,
-}
-
-// The mark of an entry.
-pub enum Mark {
-    LB,
-    ND,
-    HX,
-    EN,
-}
-
-// The mark that two bytes are.
-pub enum Marked {
-    Known(Mark),
-    Unknown,
-}
-
-// Which marks are in place: none was read yet; the label or a node was; an element was; the end was.
-pub enum Stage {
-    AtLabel,
-    AtNodes,
-    AtElements,
-    AtEnd,
-}
-
-// Whether a mark is in place, and the stage after it.
-pub enum Place {
-    In(Stage),
-    Out,
-}
-
-// Whether a body is as it should be.
-pub enum Body {
-    Right,
-    Wrong(Refusal),
-}
-
-// What stands at a place of the file: a fault, or a whole entry, by its mark, the stage after it and the length of its body.
-pub enum Entry {
-    Faulty(Refusal),
-    Whole(Mark, Stage, usize),
-}
 
 // The length of a label and the numbers of nodes and elements.
 pub struct Counts {
@@ -111,230 +51,6 @@ fn refusal_number(r: Refusal) -> u32
         Refusal::BadByte => 25,
         Refusal::TooManyElements => 26,
         Refusal::NoRoom => 27,
-    }
-}
-
-// A byte as a number that can be reckoned with.
-fn wide(b: u8) -> u32
-    ensures { λ r. ⌜ (r ≡ b) × (r < 256) ⌝ }
-{
-    b as u32
-}
-
-// The number of two bytes, low byte first.
-fn short_at(file: &[u8], at: usize) -> u32
-    requires { ⌜ at + 2 ≤ length (now file) ⌝ }
-    ensures { λ r. ⌜ (r ≡ number (take 2 (drop at (now (file .entry))))) × (r < 65536) ⌝ }
-{
-    wide(file[at]) + 256 * wide(file[at + 1])
-}
-
-// The number of four bytes, low byte first.
-fn word_at(file: &[u8], at: usize) -> u32
-    requires { ⌜ at + 4 ≤ length (now file) ⌝ }
-    ensures { λ r. ⌜ r ≡ number (take 4 (drop at (now (file .entry)))) ⌝ }
-{
-    short_at(file, at) + 65536 * short_at(file, at + 2)
-}
-
-// The signed number whose two's complement the bits are.
-fn signed_word(x: u32) -> i32
-    ensures { λ r. ⌜ r ≡ signed x ⌝ }
-{
-    if x < 2147483648 {
-        x as i32
-    } else {
-        -1 - (4294967295 - x) as i32
-    }
-}
-
-// The mark whose two letters are the low and the high byte of a number.
-fn mark_of(letters: u32) -> Marked
-    ensures { λ r. ⌜ markedHeld r ≡ markOf (letters % 256) (letters / 256) ⌝ }
-{
-    if letters == LETTERS_ND {
-        return Marked::Known(Mark::ND);
-    }
-    if letters == LETTERS_HX {
-        return Marked::Known(Mark::HX);
-    }
-    if letters == LETTERS_LB {
-        return Marked::Known(Mark::LB);
-    }
-    if letters == LETTERS_EN {
-        return Marked::Known(Mark::EN);
-    }
-    Marked::Unknown
-}
-
-// The stage after a mark, where the mark is in place.
-fn after(stage: Stage, mark: Mark) -> Place
-    ensures { λ r. ⌜ placeHeld r ≡ afterOf (stageHeld stage) (markHeld mark) ⌝ }
-{
-    match stage {
-        Stage::AtLabel => match mark {
-            Mark::LB => Place::In(Stage::AtNodes),
-            Mark::ND => Place::Out,
-            Mark::HX => Place::Out,
-            Mark::EN => Place::Out,
-        },
-        Stage::AtNodes => match mark {
-            Mark::LB => Place::Out,
-            Mark::ND => Place::In(Stage::AtNodes),
-            Mark::HX => Place::In(Stage::AtElements),
-            Mark::EN => Place::In(Stage::AtEnd),
-        },
-        Stage::AtElements => match mark {
-            Mark::LB => Place::Out,
-            Mark::ND => Place::Out,
-            Mark::HX => Place::In(Stage::AtElements),
-            Mark::EN => Place::In(Stage::AtEnd),
-        },
-        Stage::AtEnd => Place::Out,
-    }
-}
-
-// Whether a body may have this length.
-fn right_length(mark: Mark, n: usize) -> bool
-    ensures { λ r. ⌜ r ≡ rightLength lotFile (markHeld mark) n ⌝ }
-{
-    match mark {
-        Mark::LB => n <= MAX_NAME,
-        Mark::ND => n == 12,
-        Mark::HX => n == 32,
-        Mark::EN => n == 0,
-    }
-}
-
-// The length of an entry's body, where it gives n and that is right. For all but a label this is known from the mark, so that the next
-// entry is found without waiting for n to be read.
-fn body_length(mark: Mark, n: usize) -> usize
-    requires { ⌜ rightLength lotFile (markHeld mark) n ≡ true ⌝ }
-    ensures { λ r. ⌜ r ≡ n ⌝ }
-{
-    match mark {
-        Mark::LB => n,
-        Mark::ND => 12,
-        Mark::HX => 32,
-        Mark::EN => 0,
-    }
-}
-
-fn name_byte(b: u8) -> bool
-    ensures { λ r. ⌜ r ≡ nameByte b ⌝ }
-{
-    (32 <= b) & (b <= 126)
-}
-
-// Whether all bytes may stand in a label.
-fn name_bytes(name: &[u8]) -> bool
-    ensures { λ r. ⌜ r ≡ nameBytes (now (name .entry)) ⌝ }
-{
-    for k in 0..name.len() {
-        let b = name[k];
-        if !name_byte(b) {
-            return false;
-        }
-    }
-    true
-}
-
-// The fault of a whole entry, where so many elements stand before it.
-fn body_fault(mark: Mark, elements: usize, body: &[u8]) -> Body
-    ensures { λ r. ⌜ faultHeld r ≡ bodyFault lotFile (markHeld mark) elements (now (body .entry)) ⌝ }
-{
-    match mark {
-        Mark::LB => {
-            if name_bytes(body) {
-                Body::Right
-            } else {
-                Body::Wrong(Refusal::BadByte)
-            }
-        }
-        Mark::ND => Body::Right,
-        Mark::HX => {
-            if elements < MAX_ELEMENTS {
-                Body::Right
-            } else {
-                Body::Wrong(Refusal::TooManyElements)
-            }
-        }
-        Mark::EN => Body::Right,
-    }
-}
-
-// The mark of the entry at a place.
-fn mark_at(file: &[u8], at: usize) -> Marked
-    requires { ⌜ at + 2 ≤ length (now file) ⌝ }
-    ensures { λ r. ⌜ markedHeld r ≡ markOf (getD (drop at (now (file .entry))) 0 0) (getD (drop at (now (file .entry))) 1 0) ⌝ }
-{
-    mark_of(short_at(file, at))
-}
-
-// The length that the entry at a place gives for its body.
-fn length_at(file: &[u8], at: usize) -> usize
-    requires { ⌜ at + 4 ≤ length (now file) ⌝ }
-    ensures { λ r. ⌜ (r ≡ number (take 2 (drop 2 (drop at (now (file .entry)))))) × (r < 65536) ⌝ }
-{
-    short_at(file, at + 2) as usize
-}
-
-// The entry at a place, its mark and length being right: cut short, at fault, or whole.
-fn body_at(file: &[u8], at: usize, mark: Mark, stage: Stage, elements: usize, len: usize) -> Entry
-    requires { ⌜ (at + 4 ≤ length (now file)) × (len < 65536) ⌝ }
-    ensures { λ r. ⌜ entryHeld (drop at (now (file .entry))) r ≡ bodyOf lotFile (markHeld mark) (stageHeld stage) elements len (drop 4 (drop at (now (file .entry)))) ⌝ }
-    ensures { λ r. ⌜ Within (drop at (now (file .entry))) r ⌝ }
-{
-    let start = at + 4;
-    if file.len() - start < len {
-        return Entry::Faulty(Refusal::CutShort);
-    }
-    let body = body_fault(mark, elements, &file[start..start + len]);
-    match body {
-        Body::Right => Entry::Whole(mark, stage, len),
-        Body::Wrong(r) => Entry::Faulty(r),
-    }
-}
-
-// What stands at a place of the file, where so many elements stand before it.
-fn entry_at(file: &[u8], at: usize, stage: Stage, elements: usize) -> Entry
-    requires { ⌜ at ≤ length (now file) ⌝ }
-    ensures { λ r. ⌜ entryHeld (drop at (now (file .entry))) r ≡ entryOf lotFile (stageHeld stage) elements (drop at (now (file .entry))) ⌝ }
-    ensures { λ r. ⌜ Within (drop at (now (file .entry))) r ⌝ }
-{
-    if file.len() - at < 4 {
-        return Entry::Faulty(Refusal::CutShort);
-    }
-    let marked = mark_at(file, at);
-    match marked {
-        Marked::Unknown => Entry::Faulty(Refusal::UnknownMark),
-        Marked::Known(mark) => {
-            let place = after(stage, mark);
-            match place {
-                Place::Out => Entry::Faulty(Refusal::OutOfPlace),
-                Place::In(next) => {
-                    let len = length_at(file, at);
-                    if right_length(mark, len) {
-                        let n = body_length(mark, len);
-                        body_at(file, at, mark, next, elements, n)
-                    } else {
-                        Entry::Faulty(Refusal::WrongLength)
-                    }
-                }
-            }
-        }
-    }
-}
-
-// Whether the end was read.
-fn has_ended(stage: Stage) -> bool
-    ensures { λ r. ⌜ r ≡ hasEnded (stageHeld stage) ⌝ }
-{
-    match stage {
-        Stage::AtLabel => false,
-        Stage::AtNodes => false,
-        Stage::AtElements => false,
-        Stage::AtEnd => true,
     }
 }
 
@@ -378,9 +94,9 @@ fn look_through(file: &[u8]) -> Look
         nodes: 0,
         elements: 0,
     };
-    while !has_ended(stage) {
+    while !entry::has_ended(stage) {
         let elements = counts.elements;
-        let entry = entry_at(file, at, stage, elements);
+        let entry = entry::entry_at(file, at, stage, elements);
         match entry {
             Entry::Faulty(r) => {
                 return Look::Refused(r);
@@ -404,7 +120,7 @@ fn put_node(file: &[u8], at: usize, nodes: &mut [i32], n: usize)
     ensures { λ _. ⌜ now (nodes .exit) ≡ take n (now (nodes .entry)) ++ signeds 3 (drop at (now (file .entry))) ++ drop (n + 3) (now (nodes .entry)) ⌝ }
 {
     for k in 0..3 {
-        let x = signed_word(word_at(file, at + 4 * k));
+        let x = numbers::signed_word(numbers::word_at(file, at + 4 * k));
         nodes[n + k] = x;
     }
 }
@@ -415,7 +131,7 @@ fn put_element(file: &[u8], at: usize, elements: &mut [u32], n: usize)
     ensures { λ _. ⌜ now (elements .exit) ≡ take n (now (elements .entry)) ++ unsigneds 8 (drop at (now (file .entry))) ++ drop (n + 8) (now (elements .entry)) ⌝ }
 {
     for k in 0..8 {
-        let x = word_at(file, at + 4 * k);
+        let x = numbers::word_at(file, at + 4 * k);
         elements[n + k] = x;
     }
 }
@@ -469,11 +185,11 @@ fn hand_out(file: &[u8], nodes: &mut [i32], elements: &mut [u32])
         elements: 0,
     };
     while at < file.len() {
-        let marked = mark_at(file, at);
+        let marked = entry::mark_at(file, at);
         let Marked::Known(mark) = marked else {
             return;
         };
-        let len = body_length(mark, length_at(file, at));
+        let len = entry::body_length(mark, entry::length_at(file, at));
         filled = put_entry(file, at + 4, mark, nodes, elements, filled);
         at = at + 4 + len;
     }

@@ -7,7 +7,7 @@ use native.Mathlib.Nat.{pow-suc}
 use native.Mathlib.Omega.{arith}
 use lib.Dec.{ltb}
 use lib.ListN.{getD, length, take, drop, length-take, length-drop, take-append-drop}
-use lib.Seq.{length-take-le}
+use lib.Seq.{length-take-le, drop-cons}
 use lib.IntN.{ℤ, pos, negsuc}
 use lib.Signed.{mag}
 use mir.Syntax.{w32}
@@ -42,6 +42,24 @@ number-small zero [] h l = omega arith
 number-small zero (b ∷ bs) h l = absurd (omega arith)
 number-small (suc n) [] h l = omega (arith, pow-suc 256 n, number-small n [] tt (omega arith))
 number-small (suc n) (b ∷ bs) h l = omega (arith, pow-suc 256 n, number-small n bs (h .1) (omega arith), h .0)
+
+-- ---- two bytes and four at a place
+drop-two : (xs : List ℕ) (at : ℕ) → at + 2 ≤ length xs → drop at xs ≡ getD xs at 0 ∷ getD xs (at + 1) 0 ∷ drop (at + 2) xs
+drop-two xs at h =
+    let one : at + 1 ≡ suc at = omega arith in
+    let two : at + 2 ≡ suc (suc at) = omega arith in
+    drop-cons xs at 0 (omega arith) ∙ ap (λ (l : List ℕ). getD xs at 0 ∷ l) (drop-cons xs (suc at) 0 (omega arith) ∙ rw (one, two))
+
+pub number-two : (xs : List ℕ) (at : ℕ) → at + 2 ≤ length xs → number (take 2 (drop at xs)) ≡ getD xs at 0 + 256 * getD xs (at + 1) 0
+number-two xs at h = ap (λ (l : List ℕ). number (take 2 l)) (drop-two xs at h) ∙ omega arith
+
+pub number-four : (xs : List ℕ) (at : ℕ) → at + 4 ≤ length xs → number (take 4 (drop at xs)) ≡ number (take 2 (drop at xs)) + 65536 * number (take 2 (drop (at + 2) xs))
+number-four xs at h =
+    let e : at + 2 + 2 ≡ at + 4 = omega arith in
+    let first = drop-two xs at (omega arith) in
+    let second = drop-two xs (at + 2) (omega arith) in
+    ap (λ (l : List ℕ). number (take 4 l)) (first ∙ ap (λ (l : List ℕ). getD xs at 0 ∷ getD xs (at + 1) 0 ∷ l) second)
+    ∙ omega (arith, number-two xs at (omega arith), number-two xs (at + 2) (omega arith))
 
 -- ---- signed and unsigned numbers of 32 bits; they are the machine's
 pub signed-toZ : (x : ℕ) → signed x ≡ toZ w32 x

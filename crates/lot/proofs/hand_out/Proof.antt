@@ -4,7 +4,7 @@ use Prim.Native.Nat.{_-_}
 use native.Mathlib.Omega.{arith}
 use borrow.Author.Needs.{needs}
 use lib.ListN.{length}
-use Rattle.lot.specs.Meaning.{markHeld, markedHeld}
+use Rattle.entry.specs.Meaning.{markHeld, markedHeld}
 use Rattle.lot.proofs.Handed.{Handed, not-unknown, here, handed-start, handed-next, four-left, same-nodes, same-elements, handed-all, right-here, within-file, handed-fits, handed-then}
 use Rattle.lot.proofs.hand_out.Statement.{statement}
 use Rattle.lot.proofs.hand_out.Tie as tie

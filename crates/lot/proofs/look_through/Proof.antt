@@ -7,7 +7,8 @@ use borrow.Author.Tests.{not-true, not-false}
 use lib.ListN.{length, drop, length-drop}
 use Rattle.lotfile.specs.Format.{lotFile}
 use Rattle.lotfile.specs.Steps.{read-long}
-use Rattle.lot.specs.Meaning.{stageHeld, entryHeld, Within, lookOf}
+use Rattle.entry.specs.Meaning.{stageHeld, entryHeld, Within}
+use Rattle.lot.specs.Meaning.{lookOf}
 use Rattle.lot.proofs.Seen.{Seen, seen-start, seen-faulty, seen-whole, seen-more, seen-end, seen-few}
 use Rattle.lot.proofs.look_through.Statement.{statement}
 use Rattle.lot.proofs.look_through.Tie as tie

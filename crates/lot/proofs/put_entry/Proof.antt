@@ -4,8 +4,9 @@ use native.Mathlib.Omega.{arith}
 use borrow.Author.Needs.{needs}
 use lib.ListN.{length}
 use lib.Seq.{paste-zero}
-use Rattle.lot.specs.declared.Mark.{Mark}
-use Rattle.lot.specs.Meaning.{markHeld, Fitting}
+use Rattle.entry.specs.declared.Mark.{Mark}
+use Rattle.entry.specs.Meaning.{markHeld}
+use Rattle.lot.specs.Meaning.{Fitting}
 use Rattle.lot.proofs.put_entry.Statement.{statement}
 use Rattle.lot.proofs.put_entry.Tie as tie
 
