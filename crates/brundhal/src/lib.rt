@@ -9,7 +9,7 @@ ghost use Rattle.definitions.specs.Mesh.{inspection, reportAfter, boundsOf};
 ghost use Rattle.address.specs.Meaning.{addressOf, moveOf};
 ghost use Rattle.inspector.specs.Meaning.{inspectionHeld, stampHeld, boundsHeld};
 ghost use Rattle.lotfile.specs.Format.{lotFile};
-ghost use Rattle.lotfile.specs.Reading.{reading, handedOut, laidOver};
+ghost use Rattle.lotfile.specs.Reading.{readInto, handedOut, laidOver};
 ghost use Rattle.brundhal.specs.Meaning.{labelStart, lotNumbers, lotHeld, numbersOf, numbersHeld, pairOf, pairHeld, stampNumber, stampFor, addressHeld, moveHeld};
 use address::Address;
 use address::Moved;
@@ -238,10 +238,10 @@ pub extern "C" fn brundhal_read_lot(
     nodes: &mut [i32],
     elements: &mut [u32],
 ) -> BrundhalLot
-    ensures { λ r. ⌜ lotHeld r ≡ lotNumbers (reading lotFile (now (file .entry)) (length (now (nodes .entry))) (length (now (elements .entry)))) ⌝ }
-    ensures { λ r. ⌜ take (r .len) (drop (r .start) (now (file .entry))) ≡ handedOut (reading lotFile (now (file .entry)) (length (now (nodes .entry))) (length (now (elements .entry)))) .label ⌝ }
-    ensures { λ r. ⌜ now (nodes .exit) ≡ laidOver (handedOut (reading lotFile (now (file .entry)) (length (now (nodes .entry))) (length (now (elements .entry)))) .nodes) (now (nodes .entry)) ⌝ }
-    ensures { λ r. ⌜ now (elements .exit) ≡ laidOver (handedOut (reading lotFile (now (file .entry)) (length (now (nodes .entry))) (length (now (elements .entry)))) .elements) (now (elements .entry)) ⌝ }
+    ensures { λ r. ⌜ lotHeld r ≡ lotNumbers (readInto lotFile (now (file .entry)) (now (nodes .entry)) (now (elements .entry))) ⌝ }
+    ensures { λ r. ⌜ take (r .len) (drop (r .start) (now (file .entry))) ≡ handedOut (readInto lotFile (now (file .entry)) (now (nodes .entry)) (now (elements .entry))) .label ⌝ }
+    ensures { λ r. ⌜ now (nodes .exit) ≡ laidOver (handedOut (readInto lotFile (now (file .entry)) (now (nodes .entry)) (now (elements .entry))) .nodes) (now (nodes .entry)) ⌝ }
+    ensures { λ r. ⌜ now (elements .exit) ≡ laidOver (handedOut (readInto lotFile (now (file .entry)) (now (nodes .entry)) (now (elements .entry))) .elements) (now (elements .entry)) ⌝ }
 {
     let mut answer = [0u32; 3];
     let label = lot::read(file, nodes, elements, &mut answer);

@@ -8,7 +8,7 @@ ghost use Prim.Native.Nat.{_+_, _≤_};
 ghost use lib.ListN.{length, take, drop};
 ghost use Rattle.lotfile.specs.Numbers.{unsigneds, signeds};
 ghost use Rattle.lotfile.specs.Format.{lotFile};
-ghost use Rattle.lotfile.specs.Reading.{readLot, reading, handedOut, readingNumbers, laidOver, refusalNumber};
+ghost use Rattle.lotfile.specs.Reading.{readLot, reading, readInto, handedOut, readingNumbers, laidOver, refusalNumber};
 ghost use Rattle.entry.specs.Meaning.{refusalHeld, markHeld};
 ghost use Rattle.lot.specs.Meaning.{countedOf, lookHeld, lookOf, Few, newNodes, newElements, filledOf, put, Fitting, IsAccepted, HasRoom};
 use entry::Entry;
@@ -224,10 +224,10 @@ pub fn read<'a>(
     elements: &mut [u32],
     answer: &mut [u32; 3],
 ) -> &'a [u8]
-    ensures { λ r. ⌜ now r ≡ handedOut (reading lotFile (now (file .entry)) (length (now (nodes .entry))) (length (now (elements .entry)))) .label ⌝ }
-    ensures { λ r. ⌜ now (nodes .exit) ≡ laidOver (handedOut (reading lotFile (now (file .entry)) (length (now (nodes .entry))) (length (now (elements .entry)))) .nodes) (now (nodes .entry)) ⌝ }
-    ensures { λ r. ⌜ now (elements .exit) ≡ laidOver (handedOut (reading lotFile (now (file .entry)) (length (now (nodes .entry))) (length (now (elements .entry)))) .elements) (now (elements .entry)) ⌝ }
-    ensures { λ r. ⌜ now (answer .exit) ≡ readingNumbers (reading lotFile (now (file .entry)) (length (now (nodes .entry))) (length (now (elements .entry)))) ⌝ }
+    ensures { λ r. ⌜ now r ≡ handedOut (readInto lotFile (now (file .entry)) (now (nodes .entry)) (now (elements .entry))) .label ⌝ }
+    ensures { λ r. ⌜ now (nodes .exit) ≡ laidOver (handedOut (readInto lotFile (now (file .entry)) (now (nodes .entry)) (now (elements .entry))) .nodes) (now (nodes .entry)) ⌝ }
+    ensures { λ r. ⌜ now (elements .exit) ≡ laidOver (handedOut (readInto lotFile (now (file .entry)) (now (nodes .entry)) (now (elements .entry))) .elements) (now (elements .entry)) ⌝ }
+    ensures { λ r. ⌜ now (answer .exit) ≡ readingNumbers (readInto lotFile (now (file .entry)) (now (nodes .entry)) (now (elements .entry))) ⌝ }
 {
     let found = look_for(file, nodes.len(), elements.len());
     match found {

@@ -120,6 +120,10 @@ reading F file nodes elements = elim (readLot F file) [
   | accepted lot ↦ elim (roomFor lot nodes elements) [ true ↦ accepted lot | false ↦ refused noRoom ]
 ]
 
+-- the same by the lent runs themselves
+abbrev pub readInto : FileLimits → List ℕ → List ℤ → List ℕ → Reading
+readInto F file nodes elements = reading F file (length nodes) (length elements)
+
 -- ---- what is handed out: "Nothing of a refused lot is handed out"
 abbrev pub handedOut : Reading → Lot
 handedOut (accepted lot) = lot
