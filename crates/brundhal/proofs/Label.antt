@@ -6,14 +6,29 @@ use lib.ListN.{length, take, drop}
 use Rattle.foundation.specs.Lists.{All}
 use Rattle.lotfile.specs.Numbers.{Byte}
 use Rattle.lotfile.specs.Format.{FileLimits}
-use Rattle.lotfile.specs.Reading.{Reading, accepted, refused, readingNumber, reading, handedOut}
+use Rattle.lotfile.specs.Reading.{Refusal, tooLong, cutShort, unknownMark, wrongLength, outOfPlace, badByte, tooManyElements, noRoom, refusalNumber, Reading, accepted, refused, readingNumber, reading, handedOut, labelPlace}
 use Rattle.lotfile.specs.Accepted.{reading-accepted, accepted-label}
 use Rattle.brundhal.specs.Meaning.{labelStart}
 
+-- no refusal has the number 0
+refused-start : (r : Refusal) → labelStart (refusalNumber r) ≡ 0
+refused-start tooLong = refl
+refused-start cutShort = refl
+refused-start unknownMark = refl
+refused-start wrongLength = refl
+refused-start outOfPlace = refl
+refused-start badByte = refl
+refused-start tooManyElements = refl
+refused-start noRoom = refl
+
+pub start-is-place : (r : Reading) → labelStart (readingNumber r) ≡ labelPlace r
+start-is-place (accepted lot) = refl
+start-is-place (refused r) = refused-start r
+
 pub label-in-file : (F : FileLimits) (file : List ℕ) (nodes elements : ℕ) → All Byte file
-    → take (length (handedOut (reading F file nodes elements) .label)) (drop (labelStart (readingNumber (reading F file nodes elements))) file) ≡ handedOut (reading F file nodes elements) .label
+    → take (length (handedOut (reading F file nodes elements) .label)) (drop (labelPlace (reading F file nodes elements)) file) ≡ handedOut (reading F file nodes elements) .label
 label-in-file F file nodes elements h = go (reading F file nodes elements) refl
   where
-    go : (r : Reading) → reading F file nodes elements ≡ r → take (length (handedOut r .label)) (drop (labelStart (readingNumber r)) file) ≡ handedOut r .label
+    go : (r : Reading) → reading F file nodes elements ≡ r → take (length (handedOut r .label)) (drop (labelPlace r) file) ≡ handedOut r .label
     go (refused w) e = refl
     go (accepted lot) e = sym (accepted-label F file lot h (reading-accepted F file nodes elements lot e .0))

@@ -12,7 +12,7 @@ use Rattle.definitions.specs.Mesh.{Counts, Inspection, accepted, inspectionNumb
 use Rattle.brundhal.specs.declared.BrundhalInspection.{BrundhalInspection}
 use Rattle.brundhal.specs.declared.BrundhalBounds.{BrundhalBounds}
 use Rattle.brundhal.specs.declared.BrundhalAddress.{BrundhalAddress}
-use Rattle.lotfile.specs.Reading.{Reading, handedOut, readingNumber, readingNumbers}
+use Rattle.lotfile.specs.Reading.{Reading, handedOut, labelPlace, readingNumbers}
 use Rattle.brundhal.specs.declared.BrundhalMove.{BrundhalMove}
 use Rattle.brundhal.specs.declared.BrundhalLot.{BrundhalLot}
 
@@ -64,7 +64,7 @@ bit (suc n) = true
 abbrev pub moveHeld : BrundhalMove → Move
 moveHeld r = record { made = bit (r .made); address = record { level = r .level; a = r .a; b = r .b; c = r .c } }
 
--- a lot's numbers, and the place and length of its label in the file: it stands behind the four bytes of its mark and length
+-- a lot's numbers, and the place and length of its label in the file
 abbrev pub labelStart : ℕ → ℕ
 labelStart zero = 4
 labelStart (suc n) = 0
@@ -74,7 +74,7 @@ other-start zero h = absurd (h refl)
 other-start (suc n) h = refl
 
 abbrev pub lotNumbers : Reading → List ℕ
-lotNumbers r = readingNumbers r ++ (labelStart (readingNumber r) ∷ length (handedOut r .label) ∷ [])
+lotNumbers r = readingNumbers r ++ (labelPlace r ∷ length (handedOut r .label) ∷ [])
 
 abbrev pub lotHeld : BrundhalLot → List ℕ
 lotHeld r = r .number ∷ r .nodes ∷ r .elements ∷ r .start ∷ r .len ∷ []

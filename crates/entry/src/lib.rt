@@ -11,9 +11,9 @@ ghost use Rattle.lotfile.specs.Reading.{bodyFault, bodyOf, entryOf, hasEnded};
 ghost use Rattle.entry.specs.Meaning.{markHeld, markedHeld, stageHeld, placeHeld, faultHeld, entryHeld, Within};
 
 // The limits of the definitions' `lotFile`.
-pub const MAX_NAME: usize = 32;
+const MAX_NAME: usize = 32;
 
-pub const MAX_ELEMENTS: usize = 1000;
+const MAX_ELEMENTS: usize = 1000;
 
 // The two letters of each mark as a number, low byte first.
 const LETTERS_LB: u32 = 16972;
@@ -59,13 +59,13 @@ pub enum Stage {
 }
 
 // Whether a mark is in place, and the stage after it.
-pub enum Place {
+enum Place {
     In(Stage),
     Out,
 }
 
 // Whether a body is as it should be.
-pub enum Body {
+enum Body {
     Right,
     Wrong(Refusal),
 }

@@ -7,7 +7,7 @@ use lib.ListN.{length}
 use Rattle.lotfile.specs.Format.{lotFile}
 use Rattle.lotfile.specs.Reading.{Refusal, Reading, accepted, refused, readLot, reading, handedOut}
 use Rattle.lotfile.specs.Accepted.{reading-accepted}
-use Rattle.lot.specs.Meaning.{Found, holds, fails, lookOf, IsAccepted, HasRoom}
+use Rattle.lot.specs.Meaning.{holds, fails, lookOf, IsAccepted, HasRoom}
 
 pub look-fails : {w : Refusal} (r : Reading) → fails w ≡ lookOf r → r ≡ refused w
 look-fails (accepted lot) e = let z : _≡_ {A = ℕ} 0 1 = cc in absurd (omega arith)

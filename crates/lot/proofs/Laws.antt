@@ -4,7 +4,7 @@ use mathlib.Core.List.{List}
 use Prim.Native.Nat.{ℕ, zero, suc, _+_, _*_, _<_}
 use native.Mathlib.Numerals.{add-one}
 use native.Mathlib.Omega.{arith}
-use lib.ListN.{getD, length, set, take, drop}
+use lib.ListN.{getD, length, set, take, drop, List·getD-map}
 use lib.Seq.{drop-drop, paste, paste-suc}
 use lib.IntN.{pos}
 use Rattle.lotfile.specs.Numbers.{number, signed, unsigneds, signeds}
@@ -15,9 +15,8 @@ getD-unsigneds (suc n) zero bs h = refl
 getD-unsigneds (suc n) (suc k) bs h = let e : 4 + 4 * k ≡ 4 * suc k = omega arith in getD-unsigneds n k (drop 4 bs) (omega arith) ∙ ap (λ (l : List ℕ). number (take 4 l)) (drop-drop (4 * k) 4 bs ∙ ap (λ (i : ℕ). drop i bs) e)
 
 pub getD-signeds : (n k : ℕ) (bs : List ℕ) → k < n → getD (signeds n bs) k (pos 0) ≡ signed (number (take 4 (drop (4 * k) bs)))
-getD-signeds zero k bs h = absurd (omega arith)
-getD-signeds (suc n) zero bs h = refl
-getD-signeds (suc n) (suc k) bs h = let e : 4 + 4 * k ≡ 4 * suc k = omega arith in getD-signeds n k (drop 4 bs) (omega arith) ∙ ap (λ (l : List ℕ). signed (number (take 4 l))) (drop-drop (4 * k) 4 bs ∙ ap (λ (i : ℕ). drop i bs) e)
+unfolding signed
+getD-signeds n k bs h = List·getD-map signed (unsigneds n bs) k 0 ∙ ap signed (getD-unsigneds n k bs h)
 
 pub lay-next : {A : Type 0} (space d s : List A) (at k : ℕ) (v z : A) → at + k < length space → k < length s → d ≡ paste space at s k → v ≡ getD s k z → set d (at + k) v ≡ paste space at s (k + 1)
 lay-next space d s at k v z far near e f =

@@ -1,5 +1,5 @@
 -- How far a look through a file has come: what was read so far, and its counts. Assumes nothing.
-use mathlib.Core.Path.{_≡_, refl, sym, _∙_, ap, subst}
+use mathlib.Core.Path.{_≡_, refl, _∙_, ap, subst}
 use mathlib.Core.Bool.{true, false}
 use mathlib.Core.List.{List}
 use Prim.Native.Nat.{ℕ, _+_, _*_, _/_, _≤_, _<_}
@@ -7,10 +7,10 @@ use native.Mathlib.Omega.{arith}
 use lib.ListN.{length, take, drop, length-append, length-drop}
 use lib.Seq.{length-take-le}
 use Rattle.lotfile.specs.Format.{lotFile, Lot, Mark, LB, ND, HX, EN, Stage, atLabel}
-use Rattle.lotfile.specs.Reading.{Refusal, outOfPlace, faulty, whole, entryOf, taken, Reading, accepted, refused, hasEnded, noLot, readLot}
+use Rattle.lotfile.specs.Reading.{Refusal, outOfPlace, faulty, whole, entryOf, taken, refused, hasEnded, noLot, readLot}
 use Rattle.lotfile.specs.Reached.{Reached, reached-start, reached-faulty, reached-whole, reached-more, reached-end}
 use Rattle.lot.specs.declared.Counts.{Counts}
-use Rattle.lot.specs.Meaning.{countedOf, Found, holds, lookOf}
+use Rattle.lot.specs.Meaning.{countedOf, holds, lookOf}
 
 -- the counts of a lot whose entries take up so many bytes
 pub record Tells (lot : Lot) (n : Counts) (at : ℕ) : Type 0 where

@@ -6,9 +6,10 @@ ghost use mathlib.Core.Path.{_≡_};
 ghost use mathlib.Core.List.{_++_};
 ghost use Prim.Native.Nat.{_+_, _≤_};
 ghost use lib.ListN.{length, take, drop};
+ghost use denote.Ref.{ptr};
 ghost use Rattle.lotfile.specs.Numbers.{unsigneds, signeds};
 ghost use Rattle.lotfile.specs.Format.{lotFile};
-ghost use Rattle.lotfile.specs.Reading.{readLot, reading, readInto, handedOut, readingNumbers, laidOver, refusalNumber};
+ghost use Rattle.lotfile.specs.Reading.{readLot, reading, readInto, handedOut, labelPlace, readingNumbers, laidOver, refusalNumber};
 ghost use Rattle.entry.specs.Meaning.{refusalHeld, markHeld};
 ghost use Rattle.lot.specs.Meaning.{countedOf, lookHeld, lookOf, Few, newNodes, newElements, filledOf, put, Fitting, IsAccepted, HasRoom};
 use entry::Entry;
@@ -18,23 +19,23 @@ use entry::Refusal;
 use entry::Stage;
 
 // The longest file, as the definitions' `lotFile` has it; its other limits are the crate `entry`'s.
-pub const MAX_BYTES: usize = 65536;
+const MAX_BYTES: usize = 65536;
 
 // The length of a label and the numbers of nodes and elements.
-pub struct Counts {
+struct Counts {
     pub label: usize,
     pub nodes: usize,
     pub elements: usize,
 }
 
 // What a look through a file finds.
-pub enum Look {
+enum Look {
     Counted(Counts),
     Refused(Refusal),
 }
 
 // How many lent words of each kind are filled.
-pub struct Filled {
+struct Filled {
     pub nodes: usize,
     pub elements: usize,
 }
@@ -217,7 +218,8 @@ fn look_for(file: &[u8], nodes: usize, elements: usize) -> Look
 
 // Reads a lot file. The answer's three words are the number 0 with the number of nodes and of elements, or the number that refuses the
 // lot with 0 and 0. An accepted lot's coordinates, three a node, and indices, eight an element, are written to the lent words, and its
-// label is handed back as the part of the file that it is; a refused lot leaves the lent words as they are, and the part is empty.
+// label is handed back as the part of the file that it is: the last clause says where that part starts. A refused lot leaves the lent
+// words as they are, and the part is empty.
 pub fn read<'a>(
     file: &'a [u8],
     nodes: &mut [i32],
@@ -228,6 +230,7 @@ pub fn read<'a>(
     ensures { λ r. ⌜ now (nodes .exit) ≡ laidOver (handedOut (readInto lotFile (now (file .entry)) (now (nodes .entry)) (now (elements .entry))) .nodes) (now (nodes .entry)) ⌝ }
     ensures { λ r. ⌜ now (elements .exit) ≡ laidOver (handedOut (readInto lotFile (now (file .entry)) (now (nodes .entry)) (now (elements .entry))) .elements) (now (elements .entry)) ⌝ }
     ensures { λ r. ⌜ now (answer .exit) ≡ readingNumbers (readInto lotFile (now (file .entry)) (now (nodes .entry)) (now (elements .entry))) ⌝ }
+    ensures { λ r. ⌜ ptr r ≡ (ptr (file .entry) .0, labelPlace (readInto lotFile (now (file .entry)) (now (nodes .entry)) (now (elements .entry))) + ptr (file .entry) .1) ⌝ }
 {
     let found = look_for(file, nodes.len(), elements.len());
     match found {
@@ -238,7 +241,9 @@ pub fn read<'a>(
         }
         Look::Counted(n) => {
             hand_out(file, nodes, elements);
-            *answer = [0, n.nodes as u32, n.elements as u32];
+            let node_count = n.nodes as u32;
+            let element_count = n.elements as u32;
+            *answer = [0, node_count, element_count];
             let end = 4 + n.label;
             &file[4..end]
         }

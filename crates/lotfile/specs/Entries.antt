@@ -9,7 +9,7 @@ use lib.Dec.{T, eqb, eqb→eq, ltb}
 use lib.Ieee.Fits.{and-l, and-r}
 use lib.ListN.{getD, length, take, drop, length-drop, take-append-drop}
 use lib.Seq.{length-take-le, drop-drop}
-use borrow.Author.Tests.{ltb-false, le-ltb}
+use borrow.Author.Tests.{ltb-false}
 use Rattle.foundation.specs.Lists.{All}
 use Rattle.lotfile.specs.Numbers.{Byte, number, numberBytes}
 use Rattle.lotfile.specs.Format.{FileLimits, Mark, LB, ND, HX, EN, letters, isMark, markOf, rightLength, Stage, after, entryBytes}
@@ -92,13 +92,6 @@ module _ {F : FileLimits} {stage : Stage} {n : ℕ} {bytes : List ℕ} {m : Mark
       let placed = found (after stage (marked .0)) outOfPlace _ (marked .2) in
       let right = passed (rightLength F (marked .0) (number (take 2 (drop 2 bytes)))) wrongLength _ (placed .2) in
       body-whole (marked .0) (placed .0) (number (take 2 (drop 2 bytes))) (ltb-false _ _ (four .0)) refl (marked .1) (placed .1) (right .0) (right .1)
-
-  pub is-whole : IsWhole F stage n bytes m s body → entryOf F stage n bytes ≡ whole m s body
-  unfolding entryOf bodyOf
-  is-whole w =
-      let four : ltb (length bytes) 4 ≡ false = le-ltb (length bytes) 4 (omega arith) in
-      let room : ltb (length (drop 4 bytes)) (length body) ≡ false = le-ltb (length (drop 4 bytes)) (length body) (simp length-drop (omega arith)) in
-      cc
 
 -- ---- the bytes of a whole entry
 first-four : (bytes : List ℕ) → 4 ≤ length bytes → (getD bytes 0 0 ∷ getD bytes 1 0 ∷ []) ++ (take 2 (drop 2 bytes) ++ drop 4 bytes) ≡ bytes

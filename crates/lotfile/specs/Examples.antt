@@ -7,7 +7,7 @@ use lib.IntN.{pos, negsuc}
 use Rattle.foundation.specs.Lists.{All}
 use Rattle.lotfile.specs.Numbers.{signed}
 use Rattle.lotfile.specs.Format.{FileLimits, lotFile, Lot, markOf, written}
-use Rattle.lotfile.specs.Reading.{Refusal, tooLong, cutShort, unknownMark, wrongLength, outOfPlace, badByte, tooManyElements, noRoom, bodyOf, entryOf, Reading, accepted, refused, readFrom, readLot, reading}
+use Rattle.lotfile.specs.Reading.{tooLong, cutShort, unknownMark, wrongLength, outOfPlace, badByte, tooManyElements, noRoom, bodyOf, entryOf, Reading, accepted, refused, readFrom, readLot, reading}
 
 -- "CUBE", the node (1, −1, −2,147,483,648), and an element; its last two indices are 256 and 4,294,967,295
 abbrev pub labelEntry : List ℕ

@@ -10,9 +10,7 @@ use lib.ListN.{getD, length, take, drop, length-take, length-drop, take-append-d
 use lib.Seq.{length-take-le, drop-cons}
 use lib.IntN.{ℤ, pos, negsuc}
 use lib.Signed.{mag}
-use mir.Syntax.{w32}
-use mir.Val.{sel, toZ, ofZ}
-use mir.Facts.{toZ-ofZ, ofZ-toZ, sfits-toZ}
+use borrow.Author.Tests.{ltb-true, ltb-false}
 use Rattle.foundation.specs.Lists.{All, all-left, all-right, all-map, all-image, getD-all}
 use Rattle.lotfile.specs.Numbers.{Byte, number, numberBytes, signed, bits, unsigneds, signeds, unsignedBytes, signedBytes}
 
@@ -32,10 +30,6 @@ numberBytes-number (b ∷ bs) h = let x = b + 256 * number bs in
     let low : x % 256 ≡ b = omega (arith, h .0) in
     let high : x / 256 ≡ number bs = omega (arith, h .0) in
     ap₂ _∷_ low (ap (numberBytes (length bs)) high ∙ numberBytes-number bs (h .1))
-
-pub number-numberBytes : (n x : ℕ) → x < 256 ^ n → number (numberBytes n x) ≡ x
-number-numberBytes zero x h = omega arith
-number-numberBytes (suc n) x h = omega (arith, number-numberBytes n (x / 256) (omega (arith, pow-suc 256 n)))
 
 pub number-small : (n : ℕ) (bs : List ℕ) → All Byte bs → length bs ≤ n → number bs < 256 ^ n
 number-small zero [] h l = omega arith
@@ -61,27 +55,22 @@ number-four xs at h =
     ap (λ (l : List ℕ). number (take 4 l)) (first ∙ ap (λ (l : List ℕ). getD xs at 0 ∷ getD xs (at + 1) 0 ∷ l) second)
     ∙ omega (arith, number-two xs at (omega arith), number-two xs (at + 2) (omega arith))
 
--- ---- signed and unsigned numbers of 32 bits; they are the machine's
-pub signed-toZ : (x : ℕ) → signed x ≡ toZ w32 x
-unfolding signed
-signed-toZ x = go (ltb x (2 ^ 31))
-  where
-    go : (b : Bool) → _≡_ {A = ℤ} (elim b [ true ↦ pos x | false ↦ negsuc (2 ^ 32 - 1 - x) ]) (sel b (pos x) (negsuc (2 ^ 32 - suc x)))
-    go true = refl
-    go false = let e : 2 ^ 32 - 1 - x ≡ 2 ^ 32 - suc x = omega arith in ap negsuc e
-
-pub bits-ofZ : (z : ℤ) → bits z ≡ ofZ w32 z
-bits-ofZ (pos x) = refl
-bits-ofZ (negsuc x) = omega arith
-
+-- ---- signed numbers of 32 bits
 pub bits-signed : (x : ℕ) → x < 2 ^ 32 → bits (signed x) ≡ x
-bits-signed x h = bits-ofZ (signed x) ∙ ap (ofZ w32) (signed-toZ x) ∙ ofZ-toZ {w = w32} (record { fits = h })
-
-pub signed-bits : (z : ℤ) → mag z < 2 ^ 31 → signed (bits z) ≡ z
-signed-bits z h = signed-toZ (bits z) ∙ ap (toZ w32) (bits-ofZ z) ∙ toZ-ofZ (record { sfits = h })
+unfolding signed
+bits-signed x h = go (ltb x (2 ^ 31))
+  where
+    go : (t : Bool) → bits (elim t [ true ↦ pos x | false ↦ negsuc (2 ^ 32 - 1 - x) ]) ≡ x
+    go true = refl
+    go false = omega arith
 
 pub signed-small : (x : ℕ) → x < 2 ^ 32 → mag (signed x) < 2 ^ 31
-signed-small x h = rw signed-toZ (sfits-toZ {w = w32} (record { fits = h }) .sfits)
+unfolding signed
+signed-small x h = go (ltb x (2 ^ 31)) refl
+  where
+    go : (t : Bool) → ltb x (2 ^ 31) ≡ t → mag (elim t [ true ↦ pos x | false ↦ negsuc (2 ^ 32 - 1 - x) ]) < 2 ^ 31
+    go true e = ltb-true x (2 ^ 31) e
+    go false e = omega (arith, ltb-false x (2 ^ 31) e)
 
 -- ---- many numbers
 pub word-small : (bs : List ℕ) → All Byte bs → number (take 4 bs) < 2 ^ 32

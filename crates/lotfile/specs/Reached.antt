@@ -1,13 +1,13 @@
 -- How far a file has been read: the stage at a place of it, the lot so far, and that reading the file is reading on from there.
 use mathlib.Core.Path.{_≡_, refl, sym, _∙_, ap}
 use mathlib.Core.Bool.{Bool, true, false}
-use mathlib.Core.List.{List, [], _∷_}
+use mathlib.Core.List.{List}
 use Prim.Native.Nat.{ℕ, zero, suc, _+_, _-_, _/_, _≤_, _<_}
 use native.Mathlib.Omega.{arith}
 use lib.ListN.{length, drop, length-append, length-drop, drop-of-length-le}
 use lib.Seq.{drop-cons, drop-drop}
 use Rattle.lotfile.specs.Format.{FileLimits, Lot, Mark, LB, ND, HX, EN, Stage, atLabel}
-use Rattle.lotfile.specs.Reading.{Refusal, cutShort, outOfPlace, Entry, faulty, whole, entryOf, taken, Reading, accepted, refused, hasEnded, ending, readFrom, noLot, readLot}
+use Rattle.lotfile.specs.Reading.{Refusal, cutShort, outOfPlace, Entry, faulty, whole, entryOf, taken, accepted, refused, hasEnded, ending, readFrom, noLot, readLot}
 use Rattle.lotfile.specs.Through.{not-accepted, through}
 use Rattle.lotfile.specs.Steps.{entry-cut, read-ended, read-faulty, read-whole, read-start}
 

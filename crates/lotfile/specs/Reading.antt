@@ -129,6 +129,11 @@ abbrev pub handedOut : Reading → Lot
 handedOut (accepted lot) = lot
 handedOut (refused r) = noLot
 
+-- where in the file the label starts: behind the four bytes of its mark and length
+abbrev pub labelPlace : Reading → ℕ
+labelPlace (accepted lot) = 4
+labelPlace (refused r) = 0
+
 -- the number 0 with the counts of nodes and elements, or the refusal's number with counts 0
 abbrev pub readingNumber : Reading → ℕ
 readingNumber (accepted lot) = 0

@@ -1,14 +1,14 @@
 -- One step of reading, case by case: what an entry is, and what is left to read after it.
-use mathlib.Core.Path.{_≡_, refl}
+use mathlib.Core.Path.{_≡_}
 use mathlib.Core.Bool.{true, false}
 use mathlib.Core.List.{List}
-use mathlib.Core.Option.{Option, none, some}
+use mathlib.Core.Option.{none, some}
 use Prim.Native.Nat.{ℕ, suc, _+_, _/_, _≤_, _<_}
 use borrow.Author.Tests.{lt-ltb, le-ltb, lt-leb, le-leb}
 use lib.ListN.{getD, length, take, drop}
 use Rattle.lotfile.specs.Numbers.{number}
 use Rattle.lotfile.specs.Format.{FileLimits, Lot, Mark, markOf, rightLength, Stage, atLabel, after}
-use Rattle.lotfile.specs.Reading.{Refusal, tooLong, cutShort, unknownMark, wrongLength, outOfPlace, bodyFault, Entry, faulty, whole, bodyOf, entryOf, noRoom, taken, Reading, accepted, refused, hasEnded, ending, readFrom, noLot, readLot, reading}
+use Rattle.lotfile.specs.Reading.{Refusal, tooLong, cutShort, unknownMark, wrongLength, outOfPlace, bodyFault, faulty, whole, bodyOf, entryOf, noRoom, taken, accepted, refused, hasEnded, ending, readFrom, noLot, readLot, reading}
 
 -- ---- a body
 module _ (F : FileLimits) (m : Mark) (s : Stage) (n len : ℕ) (rest : List ℕ) where

@@ -7,10 +7,10 @@ use borrow.Author.Needs.{needs}
 use lib.ListN.{getD, length, take, drop}
 use Rattle.lotfile.specs.NumberLaws.{bytes-by-place}
 use Rattle.lotfile.specs.Format.{lotFile}
-use Rattle.lotfile.specs.Reading.{reading, handedOut, readingNumber, readingNumbers}
+use Rattle.lotfile.specs.Reading.{reading, handedOut, labelPlace, readingNumber, readingNumbers}
 use Rattle.lotfile.specs.Accepted.{handed-label-short}
 use Rattle.brundhal.specs.Meaning.{labelStart}
-use Rattle.brundhal.proofs.Label.{label-in-file}
+use Rattle.brundhal.proofs.Label.{start-is-place, label-in-file}
 use Rattle.brundhal.proofs.brundhal_read_lot.Statement.{statement}
 use Rattle.brundhal.proofs.brundhal_read_lot.Tie as tie
 
@@ -49,9 +49,9 @@ returns c =
     let bytes = bytes-by-place (s .args .file .now) (λ i. omega (arith, c .before .before .before .before .before .before .before .before .before .shared-slice-known .given i)) in
     let read = c .before .before .before .before .read .ensures in
     let answer = reading lotFile (s .args .file .now) (length (s .args .nodes .now)) (length (s .args .elements .now)) in
-    let start : c .label-start .result ≡ labelStart (readingNumber answer) = c .label-start .ensures ∙ ap (λ (l : List ℕ). labelStart (getD l 0 0)) (read .1 .1 .1) in
+    let start : c .label-start .result ≡ labelPlace answer = c .label-start .ensures ∙ ap (λ (l : List ℕ). labelStart (getD l 0 0)) (read .1 .1 .1 .0) ∙ start-is-place answer in
     let len : length (c .before .before .before .before .read .result .now) ≡ length (handedOut answer .label) = ap length (read .0) in (
-      ap (λ (l : List ℕ). getD l 0 0 ∷ getD l 1 0 ∷ getD l 2 0 ∷ c .label-start .result ∷ length (c .before .before .before .before .read .result .now) ∷ []) (read .1 .1 .1)
+      ap (λ (l : List ℕ). getD l 0 0 ∷ getD l 1 0 ∷ getD l 2 0 ∷ c .label-start .result ∷ length (c .before .before .before .before .read .result .now) ∷ []) (read .1 .1 .1 .0)
           ∙ ap₂ (λ (a b : ℕ). readingNumber answer ∷ length (handedOut answer .nodes) / 3 ∷ length (handedOut answer .elements) / 8 ∷ a ∷ b ∷ []) start len,
       (
         ap₂ (λ (a b : ℕ). take a (drop b (s .args .file .now))) len start ∙ label-in-file lotFile (s .args .file .now) (length (s .args .nodes .now)) (length (s .args .elements .now)) bytes,

@@ -1,8 +1,7 @@
 -- `after` meets its contract: by the cases of stage and mark. Assumes nothing.
 use mathlib.Core.Path.{_≡_, sym, ap₂}
-use mathlib.Core.Option.{Option}
 use borrow.Author.Needs.{needs}
-use Rattle.lotfile.specs.Format.{Stage as FileStage, after as afterOf}
+use Rattle.lotfile.specs.Format.{after as afterOf}
 use Rattle.entry.specs.declared.Stage.{Stage}
 use Rattle.entry.specs.declared.Mark.{Mark}
 use Rattle.entry.specs.Meaning.{stageHeld, markHeld}

@@ -1,15 +1,12 @@
 -- `body_at` meets its contract: each return has the test, or the case, that led to it. Assumes nothing.
 use mathlib.Core.Path.{_≡_, sym, _∙_, ap}
-use mathlib.Core.List.{List}
-use Prim.Native.Nat.{ℕ, _+_, _-_, _≤_}
+use Prim.Native.Nat.{_+_, _-_, _≤_}
 use native.Mathlib.Omega.{arith}
 use borrow.Author.Needs.{needs}
-use lib.ListN.{length, take, drop, length-drop}
-use lib.Seq.{drop-drop}
+use lib.ListN.{length, drop, length-drop}
 use Rattle.lotfile.specs.Format.{lotFile}
 use Rattle.lotfile.specs.Reading.{bodyFault}
 use Rattle.lotfile.specs.Steps.{body-cut, body-wrong, body-right}
-use Rattle.entry.specs.declared.Body.{Body}
 use Rattle.entry.specs.Meaning.{markHeld, faultHeld}
 use Rattle.entry.proofs.Laws.{length-rest, part-is-body}
 use Rattle.entry.proofs.body_at.Statement.{statement}

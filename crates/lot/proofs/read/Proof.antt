@@ -7,7 +7,7 @@ use mathlib.Core.List.{_∷_, []}
 use Prim.Native.Nat.{ℕ, _+_, _-_, _/_}
 use Rattle.lotfile.specs.NumberLaws.{bytes-by-place}
 use Rattle.lotfile.specs.Format.{lotFile, Lot}
-use Rattle.lotfile.specs.Reading.{readLot, reading, handedOut, readingNumbers, laidOver}
+use Rattle.lotfile.specs.Reading.{readLot, reading, handedOut, labelPlace, readingNumbers, laidOver}
 use Rattle.lotfile.specs.Accepted.{accepted-label, accepted-label-fits}
 use Rattle.lot.specs.Meaning.{lookHeld, Few}
 use Rattle.lot.proofs.Answers.{look-fails, look-holds, readable}
@@ -42,13 +42,13 @@ hand-out-requires c κs =
     let got = readable _ _ _ (held .good) in
     (got .good, got .room)
 
-cast-t21 : tie.Need-cast-t21
-cast-t21 c =
+cast-node-count : tie.Need-cast-node-count
+cast-node-count c =
     let few = subst Few (c .before .before .before .before .before .before .before .before .found2 .given .1) (c .before .before .before .before .before .before .before .before .before .before .look-for .ensures .1) in
     omega (arith, few)
 
-cast-t22 : tie.Need-cast-t22
-cast-t22 c =
+cast-element-count : tie.Need-cast-element-count
+cast-element-count c =
     let few = subst Few (c .before .before .before .before .before .before .before .before .before .found2 .given .1) (c .before .before .before .before .before .before .before .before .before .before .before .look-for .ensures .1) in
     omega (arith, few)
 
@@ -78,7 +78,7 @@ returns : tie.Need-returns
 unfolding readingNumbers
 returns c =
     let failed = look-fails (reading lotFile (c .before .before .before .before .before .before .before .before .before .args .file .now) (length (c .before .before .before .before .before .before .before .before .before .args .nodes .now)) (length (c .before .before .before .before .before .before .before .before .before .args .elements .now))) (sym (ap lookHeld (c .before .before .before .before .found .given .1)) ∙ c .before .before .before .before .before .before .look-for .ensures .0) in
-    rw failed (refl, (refl, (refl, ap (λ (n : ℕ). n ∷ 0 ∷ 0 ∷ []) (c .before .before .refusal-number .ensures))))
+    rw failed (refl, (refl, (refl, (ap (λ (n : ℕ). n ∷ 0 ∷ 0 ∷ []) (c .before .before .refusal-number .ensures), refl))))
 
 same-length : tie.Need-same-length
 same-length c = search needs
@@ -106,7 +106,10 @@ returns-2 c =
         handed .0 ∙ ap (λ (l : Lot). laidOver (l .nodes) (s .args .nodes .now)) whole,
         (
           handed .1 ∙ ap (λ (l : Lot). laidOver (l .elements) (s .args .elements .now)) whole,
-          ap₂ (λ (a b : ℕ). 0 ∷ a ∷ b ∷ []) nodes elements ∙ ap readingNumbers (sym (held .good)),
+          (
+            ap₂ (λ (a b : ℕ). 0 ∷ a ∷ b ∷ []) nodes elements ∙ ap readingNumbers (sym (held .good)),
+            ap (λ (k : ℕ). (s .args .file .ptr .0, k + s .args .file .ptr .1)) (sym (ap labelPlace (held .good))),
+          ),
         ),
       ),
     )
@@ -123,8 +126,8 @@ read-spec =
     part-result-end
     enum-known-found-2
     hand-out-requires
-    cast-t21
-    cast-t22
+    cast-node-count
+    cast-element-count
     add-end
     sub-result-2
     part-result-start-2

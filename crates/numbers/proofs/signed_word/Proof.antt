@@ -3,13 +3,12 @@ use mathlib.Core.Path.{_≡_, sym, _∙_, ap, subst}
 use Prim.Native.Nat.{ℕ, _-_, _≤_, _<_}
 use native.Mathlib.Omega.{arith}
 use borrow.Author.Needs.{needs}
-use lib.IntN.{ℤ, pos, negsuc, _-ℤ_}
+use lib.IntN.{ℤ, negsuc, _-ℤ_}
 use lib.Signed.{mag}
 use mir.Syntax.{w32}
 use mir.Val.{toZ, ofZ}
 use mir.Facts.{toZ-pos, toZ-ofZ}
-use Rattle.lotfile.specs.NumberLaws.{signed-toZ}
-use Rattle.numbers.proofs.Laws.{signed-high, below-zero}
+use Rattle.numbers.proofs.Laws.{signed-high, below-zero, signed-toZ}
 use Rattle.numbers.proofs.signed_word.Statement.{statement}
 use Rattle.numbers.proofs.signed_word.Tie as tie
 
