@@ -6,24 +6,14 @@ use lib.ListN.{length, take, drop}
 use Rattle.foundation.specs.Lists.{All}
 use Rattle.lotfile.specs.Numbers.{Byte}
 use Rattle.lotfile.specs.Format.{FileLimits}
-use Rattle.lotfile.specs.Reading.{Refusal, tooLong, cutShort, unknownMark, wrongLength, outOfPlace, badByte, tooManyElements, noRoom, refusalNumber, Reading, accepted, refused, readingNumber, reading, handedOut, labelPlace}
+use Rattle.lotfile.specs.Reading.{refusalNumber, Reading, accepted, refused, readingNumber, reading, handedOut, labelPlace}
+use Rattle.lotfile.specs.Numbered.{not-zero}
 use Rattle.lotfile.specs.Accepted.{reading-accepted, accepted-label}
-use Rattle.brundhal.specs.Meaning.{labelStart}
-
--- no refusal has the number 0
-refused-start : (r : Refusal) → labelStart (refusalNumber r) ≡ 0
-refused-start tooLong = refl
-refused-start cutShort = refl
-refused-start unknownMark = refl
-refused-start wrongLength = refl
-refused-start outOfPlace = refl
-refused-start badByte = refl
-refused-start tooManyElements = refl
-refused-start noRoom = refl
+use Rattle.brundhal.specs.Meaning.{labelStart, other-start}
 
 pub start-is-place : (r : Reading) → labelStart (readingNumber r) ≡ labelPlace r
 start-is-place (accepted lot) = refl
-start-is-place (refused r) = refused-start r
+start-is-place (refused r) = other-start (refusalNumber r) (not-zero r)
 
 pub label-in-file : (F : FileLimits) (file : List ℕ) (nodes elements : ℕ) → All Byte file
     → take (length (handedOut (reading F file nodes elements) .label)) (drop (labelPlace (reading F file nodes elements)) file) ≡ handedOut (reading F file nodes elements) .label

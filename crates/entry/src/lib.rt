@@ -6,9 +6,9 @@ ghost use mathlib.Core.Bool.{true};
 ghost use Prim.Native.Nat.{_+_, _/_, _%_, _≤_, _<_};
 ghost use lib.ListN.{length, getD, take, drop};
 ghost use Rattle.lotfile.specs.Numbers.{number};
-ghost use Rattle.lotfile.specs.Format.{lotFile, markOf, rightLength, after as afterOf, nameByte, nameBytes};
-ghost use Rattle.lotfile.specs.Reading.{bodyFault, bodyOf, entryOf, hasEnded};
-ghost use Rattle.entry.specs.Meaning.{markHeld, markedHeld, stageHeld, placeHeld, faultHeld, entryHeld, Within};
+ghost use Rattle.lotfile.specs.Format.{lotFile, markOf, rightLength, inPlace, stageAfter, nameByte, nameBytes};
+ghost use Rattle.lotfile.specs.Reading.{bodyFault, bodyOf, knownOf, entryOf, hasEnded};
+ghost use Rattle.entry.specs.Meaning.{markHeld, markedHeld, stageHeld, faultHeld, entryHeld, Within};
 
 // The limits of the definitions' `lotFile`.
 const MAX_NAME: usize = 32;
@@ -58,22 +58,16 @@ pub enum Stage {
     AtEnd,
 }
 
-// Whether a mark is in place, and the stage after it.
-enum Place {
-    In(Stage),
-    Out,
-}
-
 // Whether a body is as it should be.
 enum Body {
     Right,
     Wrong(Refusal),
 }
 
-// What stands at a place of the file: a fault, or a whole entry, by its mark, the stage after it and the length of its body.
+// What stands at a place of the file: a fault, or a whole entry, by its mark and the length of its body.
 pub enum Entry {
     Faulty(Refusal),
-    Whole(Mark, Stage, usize),
+    Whole(Mark, usize),
 }
 
 // The mark whose two letters are the low and the high byte of a number.
@@ -95,30 +89,42 @@ fn mark_of(letters: u32) -> Marked
     Marked::Unknown
 }
 
-// The stage after a mark, where the mark is in place.
-fn after(stage: Stage, mark: Mark) -> Place
-    ensures { λ r. ⌜ placeHeld r ≡ afterOf (stageHeld stage) (markHeld mark) ⌝ }
+// Whether a mark is in place at a stage.
+fn in_place(stage: Stage, mark: Mark) -> bool
+    ensures { λ r. ⌜ r ≡ inPlace (stageHeld stage) (markHeld mark) ⌝ }
 {
     match stage {
         Stage::AtLabel => match mark {
-            Mark::LB => Place::In(Stage::AtNodes),
-            Mark::ND => Place::Out,
-            Mark::HX => Place::Out,
-            Mark::EN => Place::Out,
+            Mark::LB => true,
+            Mark::ND => false,
+            Mark::HX => false,
+            Mark::EN => false,
         },
         Stage::AtNodes => match mark {
-            Mark::LB => Place::Out,
-            Mark::ND => Place::In(Stage::AtNodes),
-            Mark::HX => Place::In(Stage::AtElements),
-            Mark::EN => Place::In(Stage::AtEnd),
+            Mark::LB => false,
+            Mark::ND => true,
+            Mark::HX => true,
+            Mark::EN => true,
         },
         Stage::AtElements => match mark {
-            Mark::LB => Place::Out,
-            Mark::ND => Place::Out,
-            Mark::HX => Place::In(Stage::AtElements),
-            Mark::EN => Place::In(Stage::AtEnd),
+            Mark::LB => false,
+            Mark::ND => false,
+            Mark::HX => true,
+            Mark::EN => true,
         },
-        Stage::AtEnd => Place::Out,
+        Stage::AtEnd => false,
+    }
+}
+
+// The stage after a mark.
+pub fn stage_after(mark: Mark) -> Stage
+    ensures { λ r. ⌜ stageHeld r ≡ stageAfter (markHeld mark) ⌝ }
+{
+    match mark {
+        Mark::LB => Stage::AtNodes,
+        Mark::ND => Stage::AtNodes,
+        Mark::HX => Stage::AtElements,
+        Mark::EN => Stage::AtEnd,
     }
 }
 
@@ -208,9 +214,9 @@ pub fn length_at(file: &[u8], at: usize) -> usize
 }
 
 // The entry at a place, its mark and length being right: cut short, at fault, or whole.
-fn body_at(file: &[u8], at: usize, mark: Mark, stage: Stage, elements: usize, len: usize) -> Entry
+fn body_at(file: &[u8], at: usize, mark: Mark, elements: usize, len: usize) -> Entry
     requires { ⌜ (at + 4 ≤ length (now file)) × (len < 65536) ⌝ }
-    ensures { λ r. ⌜ entryHeld (drop at (now (file .entry))) r ≡ bodyOf lotFile (markHeld mark) (stageHeld stage) elements len (drop 4 (drop at (now (file .entry)))) ⌝ }
+    ensures { λ r. ⌜ entryHeld (drop at (now (file .entry))) r ≡ bodyOf lotFile (markHeld mark) elements len (drop 4 (drop at (now (file .entry)))) ⌝ }
     ensures { λ r. ⌜ Within (drop at (now (file .entry))) r ⌝ }
 {
     let start = at + 4;
@@ -219,9 +225,28 @@ fn body_at(file: &[u8], at: usize, mark: Mark, stage: Stage, elements: usize, le
     }
     let body = body_fault(mark, elements, &file[start..start + len]);
     match body {
-        Body::Right => Entry::Whole(mark, stage, len),
+        Body::Right => Entry::Whole(mark, len),
         Body::Wrong(r) => Entry::Faulty(r),
     }
+}
+
+// The entry at a place, its mark being known.
+fn known_at(file: &[u8], at: usize, stage: Stage, mark: Mark, elements: usize) -> Entry
+    requires { ⌜ at + 4 ≤ length (now file) ⌝ }
+    ensures { λ r. ⌜ entryHeld (drop at (now (file .entry))) r ≡ knownOf lotFile (stageHeld stage) (markHeld mark) elements (drop at (now (file .entry))) ⌝ }
+    ensures { λ r. ⌜ Within (drop at (now (file .entry))) r ⌝ }
+{
+    let len = length_at(file, at);
+    let placed = in_place(stage, mark);
+    let right = right_length(mark, len);
+    if !placed {
+        return Entry::Faulty(Refusal::OutOfPlace);
+    }
+    if !right {
+        return Entry::Faulty(Refusal::WrongLength);
+    }
+    let n = body_length(mark, len);
+    body_at(file, at, mark, elements, n)
 }
 
 // What stands at a place of the file, where so many elements stand before it.
@@ -236,21 +261,7 @@ pub fn entry_at(file: &[u8], at: usize, stage: Stage, elements: usize) -> Entry
     let marked = mark_at(file, at);
     match marked {
         Marked::Unknown => Entry::Faulty(Refusal::UnknownMark),
-        Marked::Known(mark) => {
-            let place = after(stage, mark);
-            match place {
-                Place::Out => Entry::Faulty(Refusal::OutOfPlace),
-                Place::In(next) => {
-                    let len = length_at(file, at);
-                    if right_length(mark, len) {
-                        let n = body_length(mark, len);
-                        body_at(file, at, mark, next, elements, n)
-                    } else {
-                        Entry::Faulty(Refusal::WrongLength)
-                    }
-                }
-            }
-        }
+        Marked::Known(mark) => known_at(file, at, stage, mark, elements),
     }
 }
 

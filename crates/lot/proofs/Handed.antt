@@ -11,7 +11,7 @@ use lib.Seq.{take-nil, take-append-seam, drop-append-add, drop-drop, take-take}
 use lib.IntN.{ℤ}
 use Rattle.foundation.specs.Lists.{append-nil}
 use Rattle.lotfile.specs.Numbers.{number, signed, unsigneds, signeds}
-use Rattle.lotfile.specs.Format.{lotFile, Lot, Mark, LB, ND, HX, EN, markOf, rightLength, Stage, atLabel}
+use Rattle.lotfile.specs.Format.{lotFile, Lot, Mark, LB, ND, HX, EN, markOf, rightLength, Stage, atLabel, stageAfter}
 use Rattle.lotfile.specs.Reading.{whole, entryOf, taken, accepted, hasEnded, noLot, readLot, laidOver}
 use Rattle.lotfile.specs.Entries.{IsWhole, whole-is}
 use Rattle.lotfile.specs.Reached.{Reached, Next, reached-start, reached-whole, reached-next, reached-grows, reached-all}
@@ -87,10 +87,9 @@ pub record Handed (file : List ℕ) (nodes₀ : List ℤ) (elements₀ : List �
 
 -- the entry that stands at a place, by its mark and the length it gives
 pub record Here (file : List ℕ) (at : ℕ) (stage : Stage) (lot : Lot) (m : Mark) (len : ℕ) : Type 0 where
-  pub then : Stage
   pub body : List ℕ
   pub unread : hasEnded stage ≡ false
-  pub found : entryOf lotFile stage (length (lot .elements) / 8) (drop at file) ≡ whole m then body
+  pub found : entryOf lotFile stage (length (lot .elements) / 8) (drop at file) ≡ whole m body
   pub long : length body ≡ len
 
 module _ {file : List ℕ} {at : ℕ} {stage : Stage} {lot : Lot} (n : Next lotFile file at stage lot) where
@@ -101,7 +100,7 @@ module _ {file : List ℕ} {at : ℕ} {stage : Stage} {lot : Lot} (n : Next lotF
   here m len e l =
       let w = whole-is (n .found) in
       let same : n .mark ≡ m = cc (w .mark, e) in
-      record { then = n .then; body = n .body; unread = n .unread; found = n .found ∙ ap (λ (k : Mark). whole k (n .then) (n .body)) same; long = sym (l ∙ w .says) }
+      record { body = n .body; unread = n .unread; found = n .found ∙ ap (λ (k : Mark). whole k (n .body)) same; long = sym (l ∙ w .says) }
 
 module _ {file : List ℕ} {nodes₀ : List ℤ} {elements₀ : List ℕ} (out : Lot) (good : readLot lotFile file ≡ accepted out) (room : HasRoom out (length nodes₀) (length elements₀)) where
   pub handed-start : Handed file nodes₀ elements₀ nodes₀ elements₀ 0 (record { nodes = 0; elements = 0 })
@@ -126,7 +125,7 @@ module _ {file : List ℕ} {nodes₀ : List ℤ} {elements₀ : List ℕ} (out :
         (x .nodes-are ∙ ap (λ (l : Lot). laidOver (l .nodes) nodes₀) same, x .elements-are ∙ ap (λ (l : Lot). laidOver (l .elements) elements₀) same)
 
     module _ {m : Mark} {len : ℕ} (n : Here file at (x .stage) (x .lot) m len) where
-      is-whole : IsWhole lotFile (x .stage) (length (x .lot .elements) / 8) (drop at file) m (n .then) (n .body)
+      is-whole : IsWhole lotFile (x .stage) (length (x .lot .elements) / 8) (drop at file) m (n .body)
       is-whole = whole-is (n .found)
 
       pub right-here : rightLength lotFile m len ≡ true
@@ -135,10 +134,10 @@ module _ {file : List ℕ} {nodes₀ : List ℤ} {elements₀ : List ℕ} (out :
       pub within-file : at + 4 + len ≤ length file
       within-file = omega (arith, is-whole .fits, length-drop at file, n .long, x .reached .within)
 
-      reached-then : Reached lotFile file (at + 4 + len) (n .then) (taken m (n .body) (x .lot))
+      reached-then : Reached lotFile file (at + 4 + len) (stageAfter m) (taken m (n .body) (x .lot))
       reached-then =
           let to : at + (4 + length (n .body)) ≡ at + 4 + len = omega (arith, n .long) in
-          subst (λ (k : ℕ). Reached lotFile file k (n .then) (taken m (n .body) (x .lot))) to (reached-whole lotFile file (x .reached) (n .unread) (n .found) (is-whole .fits))
+          subst (λ (k : ℕ). Reached lotFile file k (stageAfter m) (taken m (n .body) (x .lot))) to (reached-whole lotFile file (x .reached) (n .unread) (n .found) (is-whole .fits))
 
       -- the words that the entry's numbers go to are there
       fitting : (k : Mark) → rightLength lotFile k len ≡ true → (filledOf k f .nodes ≤ length nodes) × (filledOf k f .elements ≤ length elements) → Fitting k (length file) (at + 4) (length nodes) (length elements) f
@@ -162,7 +161,7 @@ module _ {file : List ℕ} {nodes₀ : List ℤ} {elements₀ : List ℕ} (out :
           let past : drop 4 (drop at file) ≡ drop (at + 4) file = drop-drop 4 at file in
           let filled = filled-taken body lot m f (x .filled) in
           record {
-            stage = n .then;
+            stage = stageAfter m;
             lot = taken m body lot;
             reached = reached-then;
             nodes-are = p ∙ rw (x .nodes-are, x .filled .0, ← past, numbers .0) (put-behind (lot .nodes) (newNodes m body) nodes₀ ∙ ap (λ (l : List ℤ). laidOver l nodes₀) (sym (taken-nodes body lot m)));

@@ -5,13 +5,13 @@ use Prim.Native.Nat.{ℕ, _+_, _*_, _≤_}
 use lib.ListN.{length, take, drop}
 use lib.IntN.{ℤ}
 use Rattle.lotfile.specs.Numbers.{unsigneds, signeds}
-use Rattle.lotfile.specs.Format.{Mark as FileMark, LB as markLB, ND as markND, HX as markHX, EN as markEN, Lot}
-use Rattle.lotfile.specs.Reading.{Refusal as Why, Reading, accepted, refused, handedOut}
+use Rattle.lotfile.specs.Format.{lotFile, Mark as FileMark, LB as markLB, ND as markND, HX as markHX, EN as markEN, Lot}
+use Rattle.lotfile.specs.Reading.{Refusal as FileRefusal, Reading, accepted, refused, handedOut}
 use Rattle.entry.specs.Meaning.{refusalHeld}
 use Rattle.lot.specs.declared.Counts.{Counts}
 use Rattle.lot.specs.declared.Filled.{Filled}
-use Rattle.lot.specs.declared.Look.{Look}
-use Rattle.lot.specs.declared.Look.the-variants.{Counted, Refused}
+use Rattle.lot.specs.declared.Scan.{Scan}
+use Rattle.lot.specs.declared.Scan.the-variants.{Counted, Refused}
 
 -- the counts with one entry more, whose body has so many bytes
 abbrev pub countedOf : FileMark → ℕ → Counts → Counts
@@ -20,22 +20,22 @@ countedOf markND len n = record { label = n .label; nodes = n .nodes + 1; elemen
 countedOf markHX len n = record { label = n .label; nodes = n .nodes; elements = n .elements + 1 }
 countedOf markEN len n = n
 
--- What a look through a file finds: the bytes of the label and the numbers of the nodes and of the elements, how many; or why the file is refused.
+-- What the scan of a file finds: how many bytes its label has, and how many words its nodes and its elements; or why the file is refused.
 pub data Found : Type 0 where
   holds : (label nodes elements : ℕ) → Found
-  fails : Why → Found
+  fails : FileRefusal → Found
 
-abbrev pub lookHeld : Look → Found
-lookHeld (Counted n) = holds (n .label) (3 * n .nodes) (8 * n .elements)
-lookHeld (Refused r) = fails (refusalHeld r)
+abbrev pub scanHeld : Scan → Found
+scanHeld (Counted n) = holds (n .label) (3 * n .nodes) (8 * n .elements)
+scanHeld (Refused r) = fails (refusalHeld r)
 
-abbrev pub lookOf : Reading → Found
-lookOf (accepted lot) = holds (length (lot .label)) (length (lot .nodes)) (length (lot .elements))
-lookOf (refused r) = fails r
+abbrev pub scanOf : Reading → Found
+scanOf (accepted lot) = holds (length (lot .label)) (length (lot .nodes)) (length (lot .elements))
+scanOf (refused r) = fails r
 
 -- no more than a file has bytes
-abbrev pub Few : Look → Type 0
-Few (Counted n) = (n .label ≤ 65536) × (n .nodes ≤ 65536) × (n .elements ≤ 65536)
+abbrev pub Few : Scan → Type 0
+Few (Counted n) = (n .label ≤ lotFile .bytes) × (n .nodes ≤ lotFile .bytes) × (n .elements ≤ lotFile .bytes)
 Few (Refused r) = Unit
 
 -- ---- handing out: the numbers of one entry, whose body stands first in these bytes

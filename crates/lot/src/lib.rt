@@ -1,17 +1,16 @@
 // Reading a lot file: the service `read`. Nothing has to be checked first: it takes any bytes and any lent space, and states its whole
 // answer, every word of lent space included, as an equation with `Reading` of the crate `lotfile` at the limits `lotFile`.
-// A file is looked through twice: first for a fault, then, where it has none and the lent space is large enough, to hand out its nodes and
+// A file is gone through twice: first for a fault, then, where it has none and the lent space is large enough, to hand out its nodes and
 // elements.
 ghost use mathlib.Core.Path.{_≡_};
-ghost use mathlib.Core.List.{_++_};
 ghost use Prim.Native.Nat.{_+_, _≤_};
-ghost use lib.ListN.{length, take, drop};
+ghost use lib.ListN.{length, drop};
 ghost use denote.Ref.{ptr};
 ghost use Rattle.lotfile.specs.Numbers.{unsigneds, signeds};
 ghost use Rattle.lotfile.specs.Format.{lotFile};
 ghost use Rattle.lotfile.specs.Reading.{readLot, reading, readInto, handedOut, labelPlace, readingNumbers, laidOver, refusalNumber};
 ghost use Rattle.entry.specs.Meaning.{refusalHeld, markHeld};
-ghost use Rattle.lot.specs.Meaning.{countedOf, lookHeld, lookOf, Few, newNodes, newElements, filledOf, put, Fitting, IsAccepted, HasRoom};
+ghost use Rattle.lot.specs.Meaning.{countedOf, scanHeld, scanOf, Few, newNodes, newElements, filledOf, put, Fitting, IsAccepted, HasRoom};
 use entry::Entry;
 use entry::Mark;
 use entry::Marked;
@@ -28,8 +27,8 @@ struct Counts {
     pub elements: usize,
 }
 
-// What a look through a file finds.
-enum Look {
+// What the scan of a file finds.
+enum Scan {
     Counted(Counts),
     Refused(Refusal),
 }
@@ -57,7 +56,7 @@ fn refusal_number(r: Refusal) -> u32
 
 // The counts with one entry more.
 fn counted(mark: Mark, len: usize, n: Counts) -> Counts
-    requires { ⌜ (n .nodes ≤ 65536) × (n .elements ≤ 65536) ⌝ }
+    requires { ⌜ (n .nodes ≤ lotFile .bytes) × (n .elements ≤ lotFile .bytes) ⌝ }
     ensures { λ r. ⌜ r ≡ countedOf (markHeld mark) len n ⌝ }
 {
     match mark {
@@ -81,12 +80,12 @@ fn counted(mark: Mark, len: usize, n: Counts) -> Counts
 }
 
 // The first fault of a file, or what it holds.
-fn look_through(file: &[u8]) -> Look
-    ensures { λ r. ⌜ lookHeld r ≡ lookOf (readLot lotFile (now (file .entry))) ⌝ }
+fn scan_file(file: &[u8]) -> Scan
+    ensures { λ r. ⌜ scanHeld r ≡ scanOf (readLot lotFile (now (file .entry))) ⌝ }
     ensures { λ r. ⌜ Few r ⌝ }
 {
     if MAX_BYTES < file.len() {
-        return Look::Refused(Refusal::TooLong);
+        return Scan::Refused(Refusal::TooLong);
     }
     let mut at = 0;
     let mut stage = Stage::AtLabel;
@@ -100,25 +99,25 @@ fn look_through(file: &[u8]) -> Look
         let entry = entry::entry_at(file, at, stage, elements);
         match entry {
             Entry::Faulty(r) => {
-                return Look::Refused(r);
+                return Scan::Refused(r);
             }
-            Entry::Whole(mark, next, len) => {
+            Entry::Whole(mark, len) => {
                 counts = counted(mark, len, counts);
                 at = at + 4 + len;
-                stage = next;
+                stage = entry::stage_after(mark);
             }
         }
     }
     if at < file.len() {
-        return Look::Refused(Refusal::OutOfPlace);
+        return Scan::Refused(Refusal::OutOfPlace);
     }
-    Look::Counted(counts)
+    Scan::Counted(counts)
 }
 
-// The three coordinates of a node, whose bytes start at a place of the file, to the n-th lent word and on.
+// Writes the three coordinates of a node, whose bytes start at a place of the file, to the lent words n, n + 1 and n + 2.
 fn put_node(file: &[u8], at: usize, nodes: &mut [i32], n: usize)
     requires { ⌜ (at + 12 ≤ length (now file)) × (n + 3 ≤ length (now nodes)) ⌝ }
-    ensures { λ _. ⌜ now (nodes .exit) ≡ take n (now (nodes .entry)) ++ signeds 3 (drop at (now (file .entry))) ++ drop (n + 3) (now (nodes .entry)) ⌝ }
+    ensures { λ _. ⌜ now (nodes .exit) ≡ put n (signeds 3 (drop at (now (file .entry)))) (now (nodes .entry)) ⌝ }
 {
     for k in 0..3 {
         let x = numbers::signed_word(numbers::word_at(file, at + 4 * k));
@@ -126,10 +125,10 @@ fn put_node(file: &[u8], at: usize, nodes: &mut [i32], n: usize)
     }
 }
 
-// The eight indices of an element likewise.
+// Writes the eight indices of an element, likewise, to the lent words from n on.
 fn put_element(file: &[u8], at: usize, elements: &mut [u32], n: usize)
     requires { ⌜ (at + 32 ≤ length (now file)) × (n + 8 ≤ length (now elements)) ⌝ }
-    ensures { λ _. ⌜ now (elements .exit) ≡ take n (now (elements .entry)) ++ unsigneds 8 (drop at (now (file .entry))) ++ drop (n + 8) (now (elements .entry)) ⌝ }
+    ensures { λ _. ⌜ now (elements .exit) ≡ put n (unsigneds 8 (drop at (now (file .entry)))) (now (elements .entry)) ⌝ }
 {
     for k in 0..8 {
         let x = numbers::word_at(file, at + 4 * k);
@@ -137,7 +136,8 @@ fn put_element(file: &[u8], at: usize, elements: &mut [u32], n: usize)
     }
 }
 
-// The numbers of an entry, whose body starts at a place of the file, behind the words that are filled; how many are filled then.
+// Writes the numbers of an entry, whose body starts at a place of the file, behind the words that are filled, and returns how many are
+// filled then.
 fn put_entry(
     file: &[u8],
     at: usize,
@@ -173,7 +173,7 @@ fn put_entry(
     }
 }
 
-// The nodes and elements of a file without fault into lent words that have room for them.
+// Writes the nodes and elements of a file without fault to lent words that have room for them.
 fn hand_out(file: &[u8], nodes: &mut [i32], elements: &mut [u32])
     requires { ⌜ IsAccepted (readLot lotFile (now file)) ⌝ }
     requires { ⌜ HasRoom (handedOut (readLot lotFile (now file))) (length (now nodes)) (length (now elements)) ⌝ }
@@ -196,22 +196,22 @@ fn hand_out(file: &[u8], nodes: &mut [i32], elements: &mut [u32])
     }
 }
 
-// The same of a file whose nodes and elements are to go into so many lent words each.
-fn look_for(file: &[u8], nodes: usize, elements: usize) -> Look
-    ensures { λ r. ⌜ lookHeld r ≡ lookOf (reading lotFile (now (file .entry)) nodes elements) ⌝ }
+// What the scan of a file finds, and 27 where its nodes or elements don't fit so many lent words.
+fn scan_with_room(file: &[u8], nodes: usize, elements: usize) -> Scan
+    ensures { λ r. ⌜ scanHeld r ≡ scanOf (reading lotFile (now (file .entry)) nodes elements) ⌝ }
     ensures { λ r. ⌜ Few r ⌝ }
 {
-    let found = look_through(file);
+    let found = scan_file(file);
     match found {
-        Look::Refused(r) => Look::Refused(r),
-        Look::Counted(n) => {
+        Scan::Refused(r) => Scan::Refused(r),
+        Scan::Counted(n) => {
             if nodes < 3 * n.nodes {
-                return Look::Refused(Refusal::NoRoom);
+                return Scan::Refused(Refusal::NoRoom);
             }
             if elements < 8 * n.elements {
-                return Look::Refused(Refusal::NoRoom);
+                return Scan::Refused(Refusal::NoRoom);
             }
-            Look::Counted(n)
+            Scan::Counted(n)
         }
     }
 }
@@ -232,14 +232,14 @@ pub fn read<'a>(
     ensures { λ r. ⌜ now (answer .exit) ≡ readingNumbers (readInto lotFile (now (file .entry)) (now (nodes .entry)) (now (elements .entry))) ⌝ }
     ensures { λ r. ⌜ ptr r ≡ (ptr (file .entry) .0, labelPlace (readInto lotFile (now (file .entry)) (now (nodes .entry)) (now (elements .entry))) + ptr (file .entry) .1) ⌝ }
 {
-    let found = look_for(file, nodes.len(), elements.len());
+    let found = scan_with_room(file, nodes.len(), elements.len());
     match found {
-        Look::Refused(r) => {
+        Scan::Refused(r) => {
             let number = refusal_number(r);
             *answer = [number, 0, 0];
             &file[0..0]
         }
-        Look::Counted(n) => {
+        Scan::Counted(n) => {
             hand_out(file, nodes, elements);
             let node_count = n.nodes as u32;
             let element_count = n.elements as u32;

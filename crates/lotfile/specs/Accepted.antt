@@ -28,7 +28,7 @@ module _ (F : FileLimits) (file : List ℕ) (lot : Lot) where
       go false p e = (ltb-false (F .bytes) (length file) p, e)
 
   accepted-end : All Byte file → readLot F file ≡ accepted lot → Between F file atEnd lot []
-  accepted-end h e = through F (Between F file) (λ stage s m l bytes body w g. between-step w g) lot (suc (length file)) atLabel noLot file (within e .1) (record { left = h; lawful = lawful-noLot F; so-far = (refl, refl) })
+  accepted-end h e = through F (Between F file) (λ stage m l bytes body w g. between-step w g) lot (suc (length file)) atLabel noLot file (within e .1) (record { left = h; lawful = lawful-noLot F; so-far = (refl, refl) })
 
   -- ---- what is known of an accepted file, and of its lot
   pub accepted-short : readLot F file ≡ accepted lot → length file ≤ F .bytes

@@ -1,14 +1,14 @@
 -- Where a reading stands between two entries: the file from its start is the writing-out of the lot so far, and this lot keeps to the limits.
-use mathlib.Core.Path.{_≡_, _∙_, ap, subst}
-use mathlib.Core.Bool.{true}
+use mathlib.Core.Path.{_≡_, sym, _∙_, ap, subst}
+use mathlib.Core.Bool.{true, false}
 use mathlib.Core.List.{List, [], _++_}
-use mathlib.Core.Option.{Option, none, some}
 use Prim.Native.Nat.{ℕ, _+_, _/_}
+use lib.Dec.{T}
 use lib.ListN.{length, drop}
 use borrow.Author.Tests.{eqb-true}
 use Rattle.foundation.specs.Lists.{All}
 use Rattle.lotfile.specs.Numbers.{Byte}
-use Rattle.lotfile.specs.Format.{FileLimits, Lot, Mark, LB, ND, HX, EN, rightLength, Stage, atLabel, atNodes, atElements, atEnd, after, entryBytes}
+use Rattle.lotfile.specs.Format.{FileLimits, Lot, Mark, LB, ND, HX, EN, rightLength, Stage, atLabel, atNodes, atElements, atEnd, inPlace, stageAfter, entryBytes}
 use Rattle.lotfile.specs.Reading.{taken, noLot}
 use Rattle.lotfile.specs.NumberLaws.{bytes-take, bytes-drop}
 use Rattle.lotfile.specs.Entries.{IsWhole, entry-first}
@@ -22,39 +22,38 @@ SoFar file atNodes lot bytes = (lot .elements ≡ []) × (file ≡ front lot byt
 SoFar file atElements lot bytes = file ≡ front lot bytes
 SoFar file atEnd lot bytes = file ≡ front lot (entryBytes EN [] ++ bytes)
 
-abbrev SoFarIf : List ℕ → Option Stage → Lot → List ℕ → Type 0
-SoFarIf file none lot bytes = Unit {0}
-SoFarIf file (some s) lot bytes = SoFar file s lot bytes
-
 pub record Between (F : FileLimits) (file : List ℕ) (stage : Stage) (lot : Lot) (bytes : List ℕ) : Type 0 where
   pub left : All Byte bytes
   pub lawful : Lawful F lot
   pub so-far : SoFar file stage lot bytes
 
-module _ (F : FileLimits) (file : List ℕ) (lot : Lot) (body rest : List ℕ) (h : All Byte body) (l : Lawful F lot) where
-  so-far-step : (stage : Stage) (m : Mark) → rightLength F m (length body) ≡ true → SoFar file stage lot (entryBytes m body ++ rest) → SoFarIf file (after stage m) (taken m body lot) rest
-  so-far-step atLabel LB right f = (ap (λ l. l .elements) (f .0), f .1 ∙ front-label lot body rest (f .0))
-  so-far-step atLabel ND right f = tt
-  so-far-step atLabel HX right f = tt
-  so-far-step atLabel EN right f = tt
-  so-far-step atNodes LB right f = tt
-  so-far-step atNodes ND right f = (f .0, f .1 ∙ front-node lot body rest h (eqb-true _ _ right) (l .nodes .threes) (f .0))
-  so-far-step atNodes HX right f = f .1 ∙ front-element lot body rest h (eqb-true _ _ right) (l .elements .eights)
-  so-far-step atNodes EN right f = f .1 ∙ front-end lot body rest (eqb-true _ _ right)
-  so-far-step atElements LB right f = tt
-  so-far-step atElements ND right f = tt
-  so-far-step atElements HX right f = f ∙ front-element lot body rest h (eqb-true _ _ right) (l .elements .eights)
-  so-far-step atElements EN right f = f ∙ front-end lot body rest (eqb-true _ _ right)
-  so-far-step atEnd m right f = tt
+misplaced : {X : Type 0} → false ≡ true → X
+misplaced e = absurd (subst T (sym e) tt)
 
-pub between-step : {F : FileLimits} {file : List ℕ} {stage s : Stage} {m : Mark} {lot : Lot} {bytes body : List ℕ}
-    → IsWhole F stage (length (lot .elements) / 8) bytes m s body → Between F file stage lot bytes → Between F file s (taken m body lot) (drop (4 + length body) bytes)
-between-step {F} {file} {stage} {s} {m} {lot} {bytes} {body} w g =
+module _ (F : FileLimits) (file : List ℕ) (lot : Lot) (body rest : List ℕ) (h : All Byte body) (l : Lawful F lot) where
+  so-far-step : (stage : Stage) (m : Mark) → inPlace stage m ≡ true → rightLength F m (length body) ≡ true → SoFar file stage lot (entryBytes m body ++ rest) → SoFar file (stageAfter m) (taken m body lot) rest
+  so-far-step atLabel LB in-place right f = (ap (λ l. l .elements) (f .0), f .1 ∙ front-label lot body rest (f .0))
+  so-far-step atLabel ND in-place right f = misplaced in-place
+  so-far-step atLabel HX in-place right f = misplaced in-place
+  so-far-step atLabel EN in-place right f = misplaced in-place
+  so-far-step atNodes LB in-place right f = misplaced in-place
+  so-far-step atNodes ND in-place right f = (f .0, f .1 ∙ front-node lot body rest h (eqb-true _ _ right) (l .nodes .threes) (f .0))
+  so-far-step atNodes HX in-place right f = f .1 ∙ front-element lot body rest h (eqb-true _ _ right) (l .elements .eights)
+  so-far-step atNodes EN in-place right f = f .1 ∙ front-end lot body rest (eqb-true _ _ right)
+  so-far-step atElements LB in-place right f = misplaced in-place
+  so-far-step atElements ND in-place right f = misplaced in-place
+  so-far-step atElements HX in-place right f = f ∙ front-element lot body rest h (eqb-true _ _ right) (l .elements .eights)
+  so-far-step atElements EN in-place right f = f ∙ front-end lot body rest (eqb-true _ _ right)
+  so-far-step atEnd m in-place right f = misplaced in-place
+
+pub between-step : {F : FileLimits} {file : List ℕ} {stage : Stage} {m : Mark} {lot : Lot} {bytes body : List ℕ}
+    → IsWhole F stage (length (lot .elements) / 8) bytes m body → Between F file stage lot bytes → Between F file (stageAfter m) (taken m body lot) (drop (4 + length body) bytes)
+between-step {F} {file} {stage} {m} {lot} {bytes} {body} w g =
     let h : All Byte body = subst (All Byte) (w .stands) (bytes-take (length body) (drop 4 bytes) (bytes-drop 4 bytes (g .left))) in
     let rest = drop (4 + length body) bytes in
     let before : SoFar file stage lot (entryBytes m body ++ rest) = subst (SoFar file stage lot) (entry-first w (g .left)) (g .so-far) in
     record {
       left = bytes-drop (4 + length body) bytes (g .left);
       lawful = lawful-taken F body m lot h (w .right) (w .clear) (g .lawful);
-      so-far = subst (λ o. SoFarIf file o (taken m body lot) rest) (w .in-place) (so-far-step F file lot body rest h (g .lawful) stage m (w .right) before);
+      so-far = so-far-step F file lot body rest h (g .lawful) stage m (w .in-place) (w .right) before;
     }

@@ -4,7 +4,7 @@ use mathlib.Core.List.{List}
 use Prim.Native.Nat.{ℕ, zero, suc, _+_, _/_, _<_}
 use native.Mathlib.Omega.{arith}
 use lib.ListN.{length, drop, length-drop}
-use Rattle.lotfile.specs.Format.{FileLimits, Lot, Stage, atLabel, atNodes, atElements, atEnd}
+use Rattle.lotfile.specs.Format.{FileLimits, Lot, Stage, atLabel, atNodes, atElements, atEnd, stageAfter}
 use Rattle.lotfile.specs.Reading.{Entry, faulty, whole, entryOf, taken, Reading, refused, readFrom}
 use Rattle.lotfile.specs.Entries.{whole-is}
 
@@ -12,10 +12,10 @@ module _ (F : FileLimits) where
   same-next : (k j : ℕ) (stage : Stage) (lot : Lot) (bytes : List ℕ) → length bytes < suc k → length bytes < suc j
       → ((s : Stage) (l : Lot) (bs : List ℕ) → length bs < k → length bs < j → readFrom F k s l bs ≡ readFrom F j s l bs)
       → (e : Entry) → entryOf F stage (length (lot .elements) / 8) bytes ≡ e
-      → _≡_ {A = Reading} (elim e [ faulty r ↦ refused r | whole m s body ↦ readFrom F k s (taken m body lot) (drop (4 + length body) bytes) ])
-      (elim e [ faulty r ↦ refused r | whole m s body ↦ readFrom F j s (taken m body lot) (drop (4 + length body) bytes) ])
+      → _≡_ {A = Reading} (elim e [ faulty r ↦ refused r | whole m body ↦ readFrom F k (stageAfter m) (taken m body lot) (drop (4 + length body) bytes) ])
+      (elim e [ faulty r ↦ refused r | whole m body ↦ readFrom F j (stageAfter m) (taken m body lot) (drop (4 + length body) bytes) ])
   same-next k j stage lot bytes p q same (faulty r) e = refl
-  same-next k j stage lot bytes p q same (whole m s body) e = let w = whole-is e in same s (taken m body lot) (drop (4 + length body) bytes) (simp length-drop (omega arith)) (simp length-drop (omega arith))
+  same-next k j stage lot bytes p q same (whole m body) e = let w = whole-is e in same (stageAfter m) (taken m body lot) (drop (4 + length body) bytes) (simp length-drop (omega arith)) (simp length-drop (omega arith))
 
   pub enough : (k j : ℕ) (stage : Stage) (lot : Lot) (bytes : List ℕ) → length bytes < k → length bytes < j → readFrom F k stage lot bytes ≡ readFrom F j stage lot bytes
   unfolding readFrom

@@ -12,8 +12,8 @@ use lib.Seq.{length-take-le, drop-drop}
 use borrow.Author.Tests.{ltb-false}
 use Rattle.foundation.specs.Lists.{All}
 use Rattle.lotfile.specs.Numbers.{Byte, number, numberBytes}
-use Rattle.lotfile.specs.Format.{FileLimits, Mark, LB, ND, HX, EN, letters, isMark, markOf, rightLength, Stage, after, entryBytes}
-use Rattle.lotfile.specs.Reading.{Refusal, cutShort, unknownMark, wrongLength, outOfPlace, bodyFault, Entry, faulty, whole, bodyOf, entryOf}
+use Rattle.lotfile.specs.Format.{FileLimits, Mark, LB, ND, HX, EN, letters, isMark, markOf, rightLength, Stage, inPlace, entryBytes}
+use Rattle.lotfile.specs.Reading.{Refusal, cutShort, unknownMark, wrongLength, outOfPlace, bodyFault, Entry, faulty, whole, bodyOf, knownOf, entryOf}
 use Rattle.lotfile.specs.NumberLaws.{bytes-take, bytes-drop, numberBytes-number}
 
 -- ---- the two letters of a mark
@@ -43,55 +43,55 @@ module _ (a b : ℕ) where
   mark-letters m e = tested m LB _ (tested m ND _ (tested m HX _ (tested m EN none (λ e. cc)))) e
 
 -- ---- a whole entry stands first exactly where each test was passed
-module _ {m : Mark} {s : Stage} {body : List ℕ} where
-  not-faulty : {X : Type 0} (r : Refusal) → faulty r ≡ whole m s body → X
+module _ {m : Mark} {body : List ℕ} where
+  not-faulty : {X : Type 0} (r : Refusal) → faulty r ≡ whole m body → X
   not-faulty r e = let z : _≡_ {A = ℕ} 0 1 = cc in absurd (omega arith)
 
-  failed : (t : Bool) (r : Refusal) (e : Entry) → elim t [ true ↦ faulty r | false ↦ e ] ≡ whole m s body → (t ≡ false) × (e ≡ whole m s body)
+  failed : (t : Bool) (r : Refusal) (e : Entry) → elim t [ true ↦ faulty r | false ↦ e ] ≡ whole m body → (t ≡ false) × (e ≡ whole m body)
   failed true r e p = not-faulty r p
   failed false r e p = (refl, p)
 
-  passed : (t : Bool) (r : Refusal) (e : Entry) → elim t [ false ↦ faulty r | true ↦ e ] ≡ whole m s body → (t ≡ true) × (e ≡ whole m s body)
+  passed : (t : Bool) (r : Refusal) (e : Entry) → elim t [ false ↦ faulty r | true ↦ e ] ≡ whole m body → (t ≡ true) × (e ≡ whole m body)
   passed true r e p = (refl, p)
   passed false r e p = not-faulty r p
 
-  found : {A : Type 0} (o : Option A) (r : Refusal) (f : A → Entry) → elim o [ none ↦ faulty r | some x ↦ f x ] ≡ whole m s body → (x : A) × (o ≡ some x) × (f x ≡ whole m s body)
+  found : {A : Type 0} (o : Option A) (r : Refusal) (f : A → Entry) → elim o [ none ↦ faulty r | some x ↦ f x ] ≡ whole m body → (x : A) × (o ≡ some x) × (f x ≡ whole m body)
   found none r f p = not-faulty r p
   found (some x) r f p = (x, refl, p)
 
-  no-fault : (o : Option Refusal) (e : Entry) → elim o [ some r ↦ faulty r | none ↦ e ] ≡ whole m s body → (o ≡ none) × (e ≡ whole m s body)
+  no-fault : (o : Option Refusal) (e : Entry) → elim o [ some r ↦ faulty r | none ↦ e ] ≡ whole m body → (o ≡ none) × (e ≡ whole m body)
   no-fault none e p = (refl, p)
   no-fault (some r) e p = not-faulty r p
 
 -- all that the tests found of a whole entry
-pub record IsWhole (F : FileLimits) (stage : Stage) (n : ℕ) (bytes : List ℕ) (m : Mark) (s : Stage) (body : List ℕ) : Type 0 where
+pub record IsWhole (F : FileLimits) (stage : Stage) (n : ℕ) (bytes : List ℕ) (m : Mark) (body : List ℕ) : Type 0 where
   pub mark : markOf (getD bytes 0 0) (getD bytes 1 0) ≡ some m
-  pub in-place : after stage m ≡ some s
+  pub in-place : inPlace stage m ≡ true
   pub says : number (take 2 (drop 2 bytes)) ≡ length body
   pub right : rightLength F m (length body) ≡ true
   pub fits : 4 + length body ≤ length bytes
   pub stands : take (length body) (drop 4 bytes) ≡ body
   pub clear : bodyFault F m n body ≡ none
 
-module _ {F : FileLimits} {stage : Stage} {n : ℕ} {bytes : List ℕ} {m : Mark} {s : Stage} {body : List ℕ} where
-  body-whole : (k : Mark) (t : Stage) (long : ℕ) → 4 ≤ length bytes → number (take 2 (drop 2 bytes)) ≡ long → markOf (getD bytes 0 0) (getD bytes 1 0) ≡ some k → after stage k ≡ some t
-      → rightLength F k long ≡ true → bodyOf F k t n long (drop 4 bytes) ≡ whole m s body → IsWhole F stage n bytes m s body
+module _ {F : FileLimits} {stage : Stage} {n : ℕ} {bytes : List ℕ} {m : Mark} {body : List ℕ} where
+  body-whole : (k : Mark) (long : ℕ) → 4 ≤ length bytes → number (take 2 (drop 2 bytes)) ≡ long → markOf (getD bytes 0 0) (getD bytes 1 0) ≡ some k → inPlace stage k ≡ true
+      → rightLength F k long ≡ true → bodyOf F k n long (drop 4 bytes) ≡ whole m body → IsWhole F stage n bytes m body
   unfolding bodyOf
-  body-whole k t long four says mark in-place right e =
+  body-whole k long four says mark in-place right e =
       let room = failed (ltb (length (drop 4 bytes)) long) cutShort _ e in
       let clear = no-fault (bodyFault F k n (take long (drop 4 bytes))) _ (room .1) in
       let fits : long ≤ length (drop 4 bytes) = ltb-false _ _ (room .0) in
       let same : long ≡ length body = cc (length-take-le long (drop 4 bytes) fits) in
       record { mark = cc; in-place = cc; says = cc; right = cc; fits = omega (arith, length-drop 4 bytes); stands = cc; clear = cc }
 
-  pub whole-is : entryOf F stage n bytes ≡ whole m s body → IsWhole F stage n bytes m s body
-  unfolding entryOf
+  pub whole-is : entryOf F stage n bytes ≡ whole m body → IsWhole F stage n bytes m body
+  unfolding entryOf knownOf
   whole-is e =
       let four = failed (ltb (length bytes) 4) cutShort _ e in
       let marked = found (markOf (getD bytes 0 0) (getD bytes 1 0)) unknownMark _ (four .1) in
-      let placed = found (after stage (marked .0)) outOfPlace _ (marked .2) in
-      let right = passed (rightLength F (marked .0) (number (take 2 (drop 2 bytes)))) wrongLength _ (placed .2) in
-      body-whole (marked .0) (placed .0) (number (take 2 (drop 2 bytes))) (ltb-false _ _ (four .0)) refl (marked .1) (placed .1) (right .0) (right .1)
+      let placed = passed (inPlace stage (marked .0)) outOfPlace _ (marked .2) in
+      let right = passed (rightLength F (marked .0) (number (take 2 (drop 2 bytes)))) wrongLength _ (placed .1) in
+      body-whole (marked .0) (number (take 2 (drop 2 bytes))) (ltb-false _ _ (four .0)) refl (marked .1) (placed .0) (right .0) (right .1)
 
 -- ---- the bytes of a whole entry
 first-four : (bytes : List ℕ) → 4 ≤ length bytes → (getD bytes 0 0 ∷ getD bytes 1 0 ∷ []) ++ (take 2 (drop 2 bytes) ++ drop 4 bytes) ≡ bytes
@@ -101,7 +101,7 @@ first-four (a ∷ b ∷ []) l = absurd (omega arith)
 first-four (a ∷ b ∷ c ∷ []) l = absurd (omega arith)
 first-four (a ∷ b ∷ c ∷ d ∷ bytes) l = refl
 
-module _ {F : FileLimits} {stage : Stage} {n : ℕ} {bytes : List ℕ} {m : Mark} {s : Stage} {body : List ℕ} (w : IsWhole F stage n bytes m s body) where
+module _ {F : FileLimits} {stage : Stage} {n : ℕ} {bytes : List ℕ} {m : Mark} {body : List ℕ} (w : IsWhole F stage n bytes m body) where
   length-bytes : All Byte bytes → numberBytes 2 (length body) ≡ take 2 (drop 2 bytes)
   length-bytes h =
       let two : length (take 2 (drop 2 bytes)) ≡ 2 = length-take-le 2 (drop 2 bytes) (simp length-drop (omega arith)) in

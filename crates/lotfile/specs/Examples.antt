@@ -7,7 +7,7 @@ use lib.IntN.{pos, negsuc}
 use Rattle.foundation.specs.Lists.{All}
 use Rattle.lotfile.specs.Numbers.{signed}
 use Rattle.lotfile.specs.Format.{FileLimits, lotFile, Lot, markOf, written}
-use Rattle.lotfile.specs.Reading.{tooLong, cutShort, unknownMark, wrongLength, outOfPlace, badByte, tooManyElements, noRoom, bodyOf, entryOf, Reading, accepted, refused, readFrom, readLot, reading}
+use Rattle.lotfile.specs.Reading.{tooLong, cutShort, unknownMark, wrongLength, outOfPlace, badByte, tooManyElements, noRoom, bodyOf, knownOf, entryOf, Reading, accepted, refused, readFrom, readLot, reading}
 
 -- "CUBE", the node (1, −1, −2,147,483,648), and an element; its last two indices are 256 and 4,294,967,295
 abbrev pub labelEntry : List ℕ
@@ -73,10 +73,16 @@ examples =
     read (76 ∷ 66 ∷ 1 ∷ 0 ∷ 31 ∷ []) (refused badByte) ∷
     read (76 ∷ 66 ∷ 1 ∷ 0 ∷ 127 ∷ []) (refused badByte) ∷
     read (76 ∷ 66 ∷ 2 ∷ 0 ∷ 32 ∷ 126 ∷ endEntry) (accepted (record { label = 32 ∷ 126 ∷ []; nodes = []; elements = [] })) ∷
+    read (76 ∷ 66 ∷ 2 ∷ 0 ∷ 31 ∷ []) (refused cutShort) ∷
+    read (nodeEntry ++ (1 ∷ [])) (refused outOfPlace) ∷
+    read (labelEntry ++ (endEntry ++ (0 ∷ []))) (refused outOfPlace) ∷
     limited 64 4 1 (accepted sample) ∷
     limited 63 4 1 (refused tooLong) ∷
     limited 64 3 1 (refused wrongLength) ∷
     limited 64 4 0 (refused tooManyElements) ∷
+    record { limits = record { bytes = 3; name = 4; elements = 1 }; file = 0 ∷ 0 ∷ 0 ∷ 0 ∷ []; nodes = 3; elements = 8; answer = refused tooLong } ∷
+    record { limits = record { bytes = 64; name = 4; elements = 0 }; file = take 59 sampleFile; nodes = 0; elements = 0; answer = refused cutShort } ∷
+    record { limits = lotFile; file = sampleFile ++ (0 ∷ []); nodes = 0; elements = 0; answer = refused outOfPlace } ∷
     roomy 2 8 (refused noRoom) ∷
     roomy 3 7 (refused noRoom) ∷
     roomy 5000 9 (accepted sample) ∷ []
@@ -86,5 +92,5 @@ abbrev pub Holds : Example → Type 0
 Holds e = reading (e .limits) (e .file) (e .nodes) (e .elements) ≡ e .answer
 
 pub examples-hold : All Holds examples
-unfolding signed markOf bodyOf entryOf readFrom readLot reading
-examples-hold = (refl, (refl, (refl, (refl, (refl, (refl, (refl, (refl, (refl, (refl, (refl, (refl, (refl, (refl, (refl, (refl, (refl, (refl, (refl, (refl, (refl, (refl, (refl, (refl, (refl, (refl, (refl, (refl, tt))))))))))))))))))))))))))))
+unfolding signed markOf bodyOf knownOf entryOf readFrom readLot reading
+examples-hold = (refl, (refl, (refl, (refl, (refl, (refl, (refl, (refl, (refl, (refl, (refl, (refl, (refl, (refl, (refl, (refl, (refl, (refl, (refl, (refl, (refl, (refl, (refl, (refl, (refl, (refl, (refl, (refl, (refl, (refl, (refl, (refl, (refl, (refl, tt))))))))))))))))))))))))))))))))))

@@ -60,28 +60,34 @@ rightLength F ND n = eqb n 12
 rightLength F HX n = eqb n 32
 rightLength F EN n = eqb n 0
 
--- "Order: one LB, any ND, any HX, one EN, nothing more." Which marks are still in place: none was read yet; the label or a node was; an element was; the end was.
+-- "Order: one LB, any ND, any HX, one EN, nothing more." A stage, by what was read last: nothing; the label or a node; an element; the end.
 pub data Stage : Type 0 where
   atLabel : Stage
   atNodes : Stage
   atElements : Stage
   atEnd : Stage
 
--- the stage after a mark, where the mark is in place
-abbrev pub after : Stage → Mark → Option Stage
-after atLabel LB = some atNodes
-after atLabel ND = none
-after atLabel HX = none
-after atLabel EN = none
-after atNodes LB = none
-after atNodes ND = some atNodes
-after atNodes HX = some atElements
-after atNodes EN = some atEnd
-after atElements LB = none
-after atElements ND = none
-after atElements HX = some atElements
-after atElements EN = some atEnd
-after atEnd m = none
+-- the marks that are in place at a stage, and the stage after a mark
+abbrev pub inPlace : Stage → Mark → Bool
+inPlace atLabel LB = true
+inPlace atLabel ND = false
+inPlace atLabel HX = false
+inPlace atLabel EN = false
+inPlace atNodes LB = false
+inPlace atNodes ND = true
+inPlace atNodes HX = true
+inPlace atNodes EN = true
+inPlace atElements LB = false
+inPlace atElements ND = false
+inPlace atElements HX = true
+inPlace atElements EN = true
+inPlace atEnd m = false
+
+abbrev pub stageAfter : Mark → Stage
+stageAfter LB = atNodes
+stageAfter ND = atNodes
+stageAfter HX = atElements
+stageAfter EN = atEnd
 
 -- "each 32..126"
 abbrev pub nameByte : ℕ → Bool

@@ -4,6 +4,7 @@ pub mod Reading
 pub mod Examples
 pub mod NumberLaws
 pub mod Steps
+pub mod Numbered
 pub mod Entries
 pub mod Through
 pub mod Reached

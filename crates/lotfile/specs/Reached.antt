@@ -6,7 +6,7 @@ use Prim.Native.Nat.{ℕ, zero, suc, _+_, _-_, _/_, _≤_, _<_}
 use native.Mathlib.Omega.{arith}
 use lib.ListN.{length, drop, length-append, length-drop, drop-of-length-le}
 use lib.Seq.{drop-cons, drop-drop}
-use Rattle.lotfile.specs.Format.{FileLimits, Lot, Mark, LB, ND, HX, EN, Stage, atLabel}
+use Rattle.lotfile.specs.Format.{FileLimits, Lot, Mark, LB, ND, HX, EN, Stage, atLabel, stageAfter}
 use Rattle.lotfile.specs.Reading.{Refusal, cutShort, outOfPlace, Entry, faulty, whole, entryOf, taken, accepted, refused, hasEnded, ending, readFrom, noLot, readLot}
 use Rattle.lotfile.specs.Through.{not-accepted, through}
 use Rattle.lotfile.specs.Steps.{entry-cut, read-ended, read-faulty, read-whole, read-start}
@@ -34,16 +34,16 @@ module _ (F : FileLimits) (file : List ℕ) where
     pub reached-faulty : {r : Refusal} → Reached at stage lot → hasEnded stage ≡ false → entryOf F stage (length (lot .elements) / 8) (drop at file) ≡ faulty r → readLot F file ≡ refused r
     reached-faulty x e f = let one = step x in one .1 ∙ read-faulty F (one .0) stage lot (drop at file) e f
 
-    pub reached-whole : {m : Mark} {s : Stage} {body : List ℕ} → Reached at stage lot → hasEnded stage ≡ false
-        → entryOf F stage (length (lot .elements) / 8) (drop at file) ≡ whole m s body → 4 + length body ≤ length (drop at file) → Reached (at + (4 + length body)) s (taken m body lot)
-    reached-whole {m} {s} {body} x e f room =
+    pub reached-whole : {m : Mark} {body : List ℕ} → Reached at stage lot → hasEnded stage ≡ false
+        → entryOf F stage (length (lot .elements) / 8) (drop at file) ≡ whole m body → 4 + length body ≤ length (drop at file) → Reached (at + (4 + length body)) (stageAfter m) (taken m body lot)
+    reached-whole {m} {body} x e f room =
         let one = step x in
         let long : length (drop at file) ≡ length file - at = length-drop at file in
         record {
           left = one .0;
           enough = omega (arith, one .2);
           within = omega (arith, x .within);
-          rest = one .1 ∙ read-whole F (one .0) stage lot (drop at file) e f ∙ ap (readFrom F (one .0) s (taken m body lot)) (drop-drop (4 + length body) at file);
+          rest = one .1 ∙ read-whole F (one .0) stage lot (drop at file) e f ∙ ap (readFrom F (one .0) (stageAfter m) (taken m body lot)) (drop-drop (4 + length body) at file);
         }
 
     pub reached-more : Reached at stage lot → hasEnded stage ≡ true → at < length file → readLot F file ≡ refused outOfPlace
@@ -65,18 +65,17 @@ holding-taken nodes elements EN body lot h = h
 -- the entry at a place
 pub record Next (F : FileLimits) (file : List ℕ) (at : ℕ) (stage : Stage) (lot : Lot) : Type 0 where
   pub mark : Mark
-  pub then : Stage
   pub body : List ℕ
   pub unread : hasEnded stage ≡ false
-  pub found : entryOf F stage (length (lot .elements) / 8) (drop at file) ≡ whole mark then body
+  pub found : entryOf F stage (length (lot .elements) / 8) (drop at file) ≡ whole mark body
 
 module _ (F : FileLimits) (file : List ℕ) (out : Lot) (good : readLot F file ≡ accepted out) {at : ℕ} {stage : Stage} {lot : Lot} (x : Reached F file at stage lot) where
   pub reached-grows : (length (lot .nodes) ≤ length (out .nodes)) × (length (lot .elements) ≤ length (out .elements))
-  reached-grows = through F (Holding (length (lot .nodes)) (length (lot .elements))) (λ stage s m l bytes body w h. holding-taken _ _ m body l h) out (x .left) stage lot (drop at file) (sym (x .rest) ∙ good) (omega arith, omega arith)
+  reached-grows = through F (Holding (length (lot .nodes)) (length (lot .elements))) (λ stage m l bytes body w h. holding-taken _ _ m body l h) out (x .left) stage lot (drop at file) (sym (x .rest) ∙ good) (omega arith, omega arith)
 
   at-entry : hasEnded stage ≡ false → (e : Entry) → entryOf F stage (length (lot .elements) / 8) (drop at file) ≡ e → Next F file at stage lot
   at-entry u (faulty r) f = not-accepted r (sym (reached-faulty F file x u f) ∙ good)
-  at-entry u (whole m s body) f = record { mark = m; then = s; body = body; unread = u; found = f }
+  at-entry u (whole m body) f = record { mark = m; body = body; unread = u; found = f }
 
   pub reached-next : at < length file → Next F file at stage lot
   reached-next h = go (hasEnded stage) refl

@@ -7,7 +7,7 @@ use lib.Dec.{leb, ltb}
 use lib.ListN.{getD, length, take, drop}
 use lib.IntN.{ℤ}
 use Rattle.lotfile.specs.Numbers.{number, unsigneds, signeds}
-use Rattle.lotfile.specs.Format.{FileLimits, Lot, Mark, LB, ND, HX, EN, markOf, rightLength, Stage, atLabel, atNodes, atElements, atEnd, after, nameBytes}
+use Rattle.lotfile.specs.Format.{FileLimits, Lot, Mark, LB, ND, HX, EN, markOf, rightLength, Stage, atLabel, atNodes, atElements, atEnd, inPlace, stageAfter, nameBytes}
 
 pub data Refusal : Type 0 where
   tooLong : Refusal
@@ -36,34 +36,34 @@ bodyFault F ND n body = none
 bodyFault F HX n body = elim (ltb n (F .elements)) [ true ↦ none | false ↦ some tooManyElements ]
 bodyFault F EN n body = none
 
--- What stands first in the bytes that are left: a fault, or a whole entry, by its mark, the stage after it and its body.
+-- What stands first in the bytes that are left: a fault, or a whole entry, by its mark and its body.
 pub data Entry : Type 0 where
   faulty : Refusal → Entry
-  whole : Mark → Stage → List ℕ → Entry
+  whole : Mark → List ℕ → Entry
 
--- the body of an entry whose mark and length are right
-unfoldable pub bodyOf : FileLimits → Mark → Stage → ℕ → ℕ → List ℕ → Entry
-bodyOf F m s n len rest =
+-- "body cut short 21; label byte 25; a 1,001st element 26": an entry whose mark and length are right
+unfoldable pub bodyOf : FileLimits → Mark → ℕ → ℕ → List ℕ → Entry
+bodyOf F m n len rest =
     elim (ltb (length rest) len) [
       | true ↦ faulty cutShort
-      | false ↦ elim (bodyFault F m n (take len rest)) [ some r ↦ faulty r | none ↦ whole m s (take len rest) ]
+      | false ↦ elim (bodyFault F m n (take len rest)) [ some r ↦ faulty r | none ↦ whole m (take len rest) ]
     ]
 
--- "fewer than four bytes left 21; unknown mark 22; mark out of place 24; wrong length 23; body cut short 21"
+-- "mark out of place 24; wrong length 23": an entry whose mark is known
+unfoldable pub knownOf : FileLimits → Stage → Mark → ℕ → List ℕ → Entry
+knownOf F stage m n bytes =
+    elim (inPlace stage m) [
+      | false ↦ faulty outOfPlace
+      | true ↦
+          elim (rightLength F m (number (take 2 (drop 2 bytes)))) [ false ↦ faulty wrongLength | true ↦ bodyOf F m n (number (take 2 (drop 2 bytes))) (drop 4 bytes) ]
+    ]
+
+-- "fewer than four bytes left 21; unknown mark 22"
 unfoldable pub entryOf : FileLimits → Stage → ℕ → List ℕ → Entry
 entryOf F stage n bytes =
     elim (ltb (length bytes) 4) [
       | true ↦ faulty cutShort
-      | false ↦
-          elim (markOf (getD bytes 0 0) (getD bytes 1 0)) [
-            | none ↦ faulty unknownMark
-            | some m ↦
-                elim (after stage m) [
-                  | none ↦ faulty outOfPlace
-                  | some s ↦
-                      elim (rightLength F m (number (take 2 (drop 2 bytes)))) [ false ↦ faulty wrongLength | true ↦ bodyOf F m s n (number (take 2 (drop 2 bytes))) (drop 4 bytes) ]
-                ]
-          ]
+      | false ↦ elim (markOf (getD bytes 0 0) (getD bytes 1 0)) [ none ↦ faulty unknownMark | some m ↦ knownOf F stage m n bytes ]
     ]
 
 -- a lot with one entry more
@@ -99,7 +99,7 @@ readFrom F (suc k) stage lot bytes =
       | false ↦
           elim (entryOf F stage (length (lot .elements) / 8) bytes) [
             | faulty r ↦ refused r
-            | whole m s body ↦ readFrom F k s (taken m body lot) (drop (4 + length body) bytes)
+            | whole m body ↦ readFrom F k (stageAfter m) (taken m body lot) (drop (4 + length body) bytes)
           ]
     ]
 

@@ -7,22 +7,36 @@ use Prim.Native.Nat.{ℕ, suc, _+_, _/_, _≤_, _<_}
 use borrow.Author.Tests.{lt-ltb, le-ltb, lt-leb, le-leb}
 use lib.ListN.{getD, length, take, drop}
 use Rattle.lotfile.specs.Numbers.{number}
-use Rattle.lotfile.specs.Format.{FileLimits, Lot, Mark, markOf, rightLength, Stage, atLabel, after}
-use Rattle.lotfile.specs.Reading.{Refusal, tooLong, cutShort, unknownMark, wrongLength, outOfPlace, bodyFault, faulty, whole, bodyOf, entryOf, noRoom, taken, accepted, refused, hasEnded, ending, readFrom, noLot, readLot, reading}
+use Rattle.lotfile.specs.Format.{FileLimits, Lot, Mark, markOf, rightLength, Stage, atLabel, inPlace, stageAfter}
+use Rattle.lotfile.specs.Reading.{Refusal, tooLong, cutShort, unknownMark, wrongLength, outOfPlace, bodyFault, faulty, whole, bodyOf, knownOf, entryOf, noRoom, taken, accepted, refused, hasEnded, ending, readFrom, noLot, readLot, reading}
 
 -- ---- a body
-module _ (F : FileLimits) (m : Mark) (s : Stage) (n len : ℕ) (rest : List ℕ) where
-  pub body-cut : length rest < len → bodyOf F m s n len rest ≡ faulty cutShort
+module _ (F : FileLimits) (m : Mark) (n len : ℕ) (rest : List ℕ) where
+  pub body-cut : length rest < len → bodyOf F m n len rest ≡ faulty cutShort
   unfolding bodyOf
   body-cut h = rw (lt-ltb (length rest) len h, bodyOf)
 
-  pub body-wrong : (r : Refusal) → len ≤ length rest → bodyFault F m n (take len rest) ≡ some r → bodyOf F m s n len rest ≡ faulty r
+  pub body-wrong : (r : Refusal) → len ≤ length rest → bodyFault F m n (take len rest) ≡ some r → bodyOf F m n len rest ≡ faulty r
   unfolding bodyOf
   body-wrong r h e = rw (le-ltb (length rest) len h, e, bodyOf)
 
-  pub body-right : len ≤ length rest → bodyFault F m n (take len rest) ≡ none → bodyOf F m s n len rest ≡ whole m s (take len rest)
+  pub body-right : len ≤ length rest → bodyFault F m n (take len rest) ≡ none → bodyOf F m n len rest ≡ whole m (take len rest)
   unfolding bodyOf
   body-right h e = rw (le-ltb (length rest) len h, e, bodyOf)
+
+-- ---- an entry whose mark is known
+module _ (F : FileLimits) (stage : Stage) (m : Mark) (n : ℕ) (bytes : List ℕ) where
+  pub known-out : inPlace stage m ≡ false → knownOf F stage m n bytes ≡ faulty outOfPlace
+  unfolding knownOf
+  known-out e = rw (e, knownOf)
+
+  pub known-length : {len : ℕ} → inPlace stage m ≡ true → len ≡ number (take 2 (drop 2 bytes)) → rightLength F m len ≡ false → knownOf F stage m n bytes ≡ faulty wrongLength
+  unfolding knownOf
+  known-length e l f = rw (e, ← l, f, knownOf)
+
+  pub known-body : {len : ℕ} → inPlace stage m ≡ true → len ≡ number (take 2 (drop 2 bytes)) → rightLength F m len ≡ true → knownOf F stage m n bytes ≡ bodyOf F m n len (drop 4 bytes)
+  unfolding knownOf
+  known-body e l f = rw l (rw (e, rw l at f, knownOf))
 
 -- ---- an entry
 module _ (F : FileLimits) (stage : Stage) (n : ℕ) (bytes : List ℕ) where
@@ -34,19 +48,9 @@ module _ (F : FileLimits) (stage : Stage) (n : ℕ) (bytes : List ℕ) where
   unfolding entryOf
   entry-unknown h e = rw (le-ltb (length bytes) 4 h, e, entryOf)
 
-  pub entry-out : {m : Mark} → 4 ≤ length bytes → markOf (getD bytes 0 0) (getD bytes 1 0) ≡ some m → after stage m ≡ none → entryOf F stage n bytes ≡ faulty outOfPlace
+  pub entry-known : {m : Mark} → 4 ≤ length bytes → markOf (getD bytes 0 0) (getD bytes 1 0) ≡ some m → entryOf F stage n bytes ≡ knownOf F stage m n bytes
   unfolding entryOf
-  entry-out h e f = rw (le-ltb (length bytes) 4 h, e, f, entryOf)
-
-  pub entry-length : {m : Mark} {s : Stage} {len : ℕ} → 4 ≤ length bytes → markOf (getD bytes 0 0) (getD bytes 1 0) ≡ some m → after stage m ≡ some s
-      → len ≡ number (take 2 (drop 2 bytes)) → rightLength F m len ≡ false → entryOf F stage n bytes ≡ faulty wrongLength
-  unfolding entryOf
-  entry-length h e f l g = rw (le-ltb (length bytes) 4 h, e, f, ← l, g, entryOf)
-
-  pub entry-body : {m : Mark} {s : Stage} {len : ℕ} → 4 ≤ length bytes → markOf (getD bytes 0 0) (getD bytes 1 0) ≡ some m → after stage m ≡ some s
-      → len ≡ number (take 2 (drop 2 bytes)) → rightLength F m len ≡ true → entryOf F stage n bytes ≡ bodyOf F m s n len (drop 4 bytes)
-  unfolding entryOf
-  entry-body h e f l g = rw l (rw (le-ltb (length bytes) 4 h, e, f, rw l at g, entryOf))
+  entry-known h e = rw (le-ltb (length bytes) 4 h, e, entryOf)
 
 -- ---- the bytes that are left
 module _ (F : FileLimits) (k : ℕ) (stage : Stage) (lot : Lot) (bytes : List ℕ) where
@@ -58,8 +62,8 @@ module _ (F : FileLimits) (k : ℕ) (stage : Stage) (lot : Lot) (bytes : List �
   unfolding readFrom
   read-faulty e f = rw (e, f, readFrom)
 
-  pub read-whole : {m : Mark} {s : Stage} {body : List ℕ} → hasEnded stage ≡ false → entryOf F stage (length (lot .elements) / 8) bytes ≡ whole m s body
-      → readFrom F (suc k) stage lot bytes ≡ readFrom F k s (taken m body lot) (drop (4 + length body) bytes)
+  pub read-whole : {m : Mark} {body : List ℕ} → hasEnded stage ≡ false → entryOf F stage (length (lot .elements) / 8) bytes ≡ whole m body
+      → readFrom F (suc k) stage lot bytes ≡ readFrom F k (stageAfter m) (taken m body lot) (drop (4 + length body) bytes)
   unfolding readFrom
   read-whole e f = rw (e, f, readFrom)
 

@@ -4,7 +4,7 @@ use mathlib.Core.List.{List, [], _∷_}
 use Prim.Native.Nat.{ℕ, zero, suc, _+_, _/_}
 use native.Mathlib.Omega.{arith}
 use lib.ListN.{length, drop}
-use Rattle.lotfile.specs.Format.{FileLimits, Lot, Mark, Stage, atLabel, atNodes, atElements, atEnd}
+use Rattle.lotfile.specs.Format.{FileLimits, Lot, Mark, Stage, atLabel, atNodes, atElements, atEnd, stageAfter}
 use Rattle.lotfile.specs.Reading.{Refusal, cutShort, outOfPlace, Entry, faulty, whole, entryOf, taken, accepted, refused, ending, readFrom}
 use Rattle.lotfile.specs.Entries.{IsWhole, whole-is}
 
@@ -13,13 +13,13 @@ not-accepted r e = let z : _≡_ {A = ℕ} 0 1 = cc in absurd (omega arith)
 
 -- P of a stage, the lot so far and the bytes that are left
 module _ (F : FileLimits) (P : Stage → Lot → List ℕ → Type 0)
-    (kept : (stage s : Stage) (m : Mark) (lot : Lot) (bytes body : List ℕ) → IsWhole F stage (length (lot .elements) / 8) bytes m s body → P stage lot bytes → P s (taken m body lot) (drop (4 + length body) bytes))
+    (kept : (stage : Stage) (m : Mark) (lot : Lot) (bytes body : List ℕ) → IsWhole F stage (length (lot .elements) / 8) bytes m body → P stage lot bytes → P (stageAfter m) (taken m body lot) (drop (4 + length body) bytes))
     (out : Lot) where
   next : (k : ℕ) (stage : Stage) (lot : Lot) (bytes : List ℕ) → ((s : Stage) (l : Lot) (bs : List ℕ) → readFrom F k s l bs ≡ accepted out → P s l bs → P atEnd out [])
       → (e : Entry) → entryOf F stage (length (lot .elements) / 8) bytes ≡ e
-      → elim e [ faulty r ↦ refused r | whole m s body ↦ readFrom F k s (taken m body lot) (drop (4 + length body) bytes) ] ≡ accepted out → P stage lot bytes → P atEnd out []
+      → elim e [ faulty r ↦ refused r | whole m body ↦ readFrom F k (stageAfter m) (taken m body lot) (drop (4 + length body) bytes) ] ≡ accepted out → P stage lot bytes → P atEnd out []
   next k stage lot bytes then (faulty r) q e p = not-accepted r e
-  next k stage lot bytes then (whole m s body) q e p = then s (taken m body lot) (drop (4 + length body) bytes) e (kept stage s m lot bytes body (whole-is q) p)
+  next k stage lot bytes then (whole m body) q e p = then (stageAfter m) (taken m body lot) (drop (4 + length body) bytes) e (kept stage m lot bytes body (whole-is q) p)
 
   last : (lot : Lot) (bytes : List ℕ) → ending lot bytes ≡ accepted out → P atEnd lot bytes → P atEnd out []
   last lot [] e p = let same : lot ≡ out = cc in subst (λ l. P atEnd l []) same p

@@ -22,7 +22,7 @@ returns : tie.Need-returns
 returns c =
     let s = c .before .before in
     let h : length (drop 4 (drop (s .args .at) (s .args .file .now))) ≡ length (s .args .file .now) - (s .args .at + 4) = length-rest (s .args .file .now) (s .args .at) 4 in
-    (sym (body-cut lotFile _ _ _ _ _ (omega arith)), tt)
+    (sym (body-cut lotFile _ _ _ _ (omega arith)), tt)
 
 add-body-fault : tie.Need-add-body-fault
 add-body-fault c = search needs
@@ -52,7 +52,7 @@ returns-2 c =
     let left = length-rest xs (s .args .at) 4 in
     let room : s .args .len ≤ length (drop 4 (drop (s .args .at) xs)) = omega (arith, left) in
     let right = sym (ap (bodyFault lotFile (markHeld (s .args .mark)) (s .args .elements)) (part-is-body xs (s .args .at) (s .args .len))) ∙ sym (c .before .before .body-fault .ensures) ∙ ap faultHeld (c .enum-told .given .1) in
-    (sym (body-right lotFile _ _ _ _ _ room right), omega (arith, length-drop (s .args .at) xs))
+    (sym (body-right lotFile _ _ _ _ room right), omega (arith, length-drop (s .args .at) xs))
 
 returns-3 : tie.Need-returns-3
 returns-3 c =
@@ -61,7 +61,7 @@ returns-3 c =
     let left = length-rest xs (s .args .at) 4 in
     let room : s .args .len ≤ length (drop 4 (drop (s .args .at) xs)) = omega (arith, left) in
     let wrong = sym (ap (bodyFault lotFile (markHeld (s .args .mark)) (s .args .elements)) (part-is-body xs (s .args .at) (s .args .len))) ∙ sym (c .before .before .before .body-fault .ensures) ∙ ap faultHeld (c .before .body .given .1) in
-    (sym (body-wrong lotFile _ _ _ _ _ _ room wrong), tt)
+    (sym (body-wrong lotFile _ _ _ _ _ room wrong), tt)
 
 pub body-at-spec : {M : Type 1} → statement M
 body-at-spec =

@@ -1,13 +1,12 @@
--- `entry_at` meets its contract: each return has the tests and cases that led to it. Assumes nothing.
-use mathlib.Core.Path.{_≡_, sym, _∙_, ap, subst}
-use mathlib.Core.Bool.{true}
-use Prim.Native.Nat.{ℕ, _≤_}
+-- `entry_at` meets its contract: by whether four bytes are left and the mark is known. Assumes nothing.
+use mathlib.Core.Path.{sym, _∙_, ap}
+use Prim.Native.Nat.{_≤_}
 use native.Mathlib.Omega.{arith}
 use borrow.Author.Needs.{needs}
 use lib.ListN.{length, drop, length-drop}
-use Rattle.lotfile.specs.Format.{lotFile, rightLength}
-use Rattle.lotfile.specs.Steps.{entry-cut, entry-unknown, entry-out, entry-length, entry-body}
-use Rattle.entry.specs.Meaning.{markHeld, markedHeld, placeHeld}
+use Rattle.lotfile.specs.Format.{lotFile}
+use Rattle.lotfile.specs.Steps.{entry-cut, entry-unknown, entry-known}
+use Rattle.entry.specs.Meaning.{markedHeld}
 use Rattle.entry.proofs.entry_at.Statement.{statement}
 use Rattle.entry.proofs.entry_at.Tie as tie
 
@@ -28,26 +27,8 @@ enum-told c = search needs
 enum-known-marked : tie.Need-enum-known-marked
 enum-known-marked c = search needs
 
-after-requires : tie.Need-after-requires
-after-requires c κs = search needs
-
-enum-told-2 : tie.Need-enum-told-2
-enum-told-2 c = search needs
-
-enum-known-place : tie.Need-enum-known-place
-enum-known-place c = search needs
-
-length-at-requires : tie.Need-length-at-requires
-length-at-requires c κs = search needs
-
-right-length-requires : tie.Need-right-length-requires
-right-length-requires c κs = search needs
-
-body-length-requires : tie.Need-body-length-requires
-body-length-requires c κs = sym (c .before .right-length .ensures) ∙ c .if2 .taken
-
-body-at-requires : tie.Need-body-at-requires
-body-at-requires c κs = search needs
+known-at-requires : tie.Need-known-at-requires
+known-at-requires c κs = search needs
 
 returns-2 : tie.Need-returns-2
 returns-2 c =
@@ -57,30 +38,10 @@ returns-2 c =
 
 returns-3 : tie.Need-returns-3
 returns-3 c =
-    let s = c .before .before .before .before .before .before .before .before .before in
+    let s = c .before .before .before .before .before .before .before in
     let room : 4 ≤ length (drop (s .args .at) (s .args .file .now)) = omega (arith, length-drop (s .args .at) (s .args .file .now)) in
-    let known = sym (c .before .before .before .before .before .before .mark-at .ensures) ∙ ap markedHeld (c .before .before .before .before .marked .given .1) in
-    let out = sym (c .before .before .after .ensures) ∙ ap placeHeld (c .enum-told2 .given .1) in
-    (sym (entry-out lotFile _ _ _ room known out), tt)
-
-returns-4 : tie.Need-returns-4
-returns-4 c =
-    let s = c .before .before .before .before .before .before .before .before .before .before .before .before .before .before .before in
-    let room : 4 ≤ length (drop (s .args .at) (s .args .file .now)) = omega (arith, length-drop (s .args .at) (s .args .file .now)) in
-    let known = sym (c .before .before .before .before .before .before .before .before .before .before .before .before .mark-at .ensures) ∙ ap markedHeld (c .before .before .before .before .before .before .before .before .before .before .marked .given .1) in
-    let here = sym (c .before .before .before .before .before .before .before .before .after .ensures) ∙ ap placeHeld (c .before .before .before .before .before .before .place .given .1) in
-    let len = c .before .body-length .ensures in
-    let right = subst (λ (n : ℕ). rightLength lotFile (markHeld (c .before .before .before .before .before .before .before .before .before .before .marked .given .0 .0)) n ≡ true) (sym len) (sym (c .before .before .before .right-length .ensures) ∙ c .before .before .if2 .taken) in
-    (c .body-at .ensures .0 ∙ sym (entry-body lotFile _ _ _ room known here (len ∙ c .before .before .before .before .length-at .ensures .0) right), c .body-at .ensures .1)
-
-returns-5 : tie.Need-returns-5
-returns-5 c =
-    let s = c .before .before .before .before .before .before .before .before .before .before .before .before .before in
-    let room : 4 ≤ length (drop (s .args .at) (s .args .file .now)) = omega (arith, length-drop (s .args .at) (s .args .file .now)) in
-    let known = sym (c .before .before .before .before .before .before .before .before .before .before .mark-at .ensures) ∙ ap markedHeld (c .before .before .before .before .before .before .before .before .marked .given .1) in
-    let here = sym (c .before .before .before .before .before .before .after .ensures) ∙ ap placeHeld (c .before .before .before .before .place .given .1) in
-    let wrong = sym (c .before .right-length .ensures) ∙ c .if2 .left in
-    (sym (entry-length lotFile _ _ _ room known here (c .before .before .length-at .ensures .0) wrong), tt)
+    let known = sym (c .before .before .before .before .mark-at .ensures) ∙ ap markedHeld (c .before .before .marked .given .1) in
+    (c .known-at .ensures .0 ∙ sym (entry-known lotFile _ _ _ room known), c .known-at .ensures .1)
 
 pub entry-at-spec : {M : Type 1} → statement M
 entry-at-spec =
@@ -91,14 +52,6 @@ entry-at-spec =
     mark-at-requires
     enum-told
     enum-known-marked
-    after-requires
-    enum-told-2
-    enum-known-place
-    length-at-requires
-    right-length-requires
-    body-length-requires
-    body-at-requires
+    known-at-requires
     returns-2
-    returns-3
-    returns-4
-    returns-5)
+    returns-3)

@@ -1,4 +1,4 @@
--- `read` meets its contract: by what the look through the file found. Assumes nothing.
+-- `read` meets its contract: by what the scan of the file found. Assumes nothing.
 use mathlib.Core.Path.{_≡_, refl, sym, _∙_, ap, ap₂, subst}
 use native.Mathlib.Omega.{arith}
 use borrow.Author.Needs.{needs}
@@ -9,13 +9,13 @@ use Rattle.lotfile.specs.NumberLaws.{bytes-by-place}
 use Rattle.lotfile.specs.Format.{lotFile, Lot}
 use Rattle.lotfile.specs.Reading.{readLot, reading, handedOut, labelPlace, readingNumbers, laidOver}
 use Rattle.lotfile.specs.Accepted.{accepted-label, accepted-label-fits}
-use Rattle.lot.specs.Meaning.{lookHeld, Few}
-use Rattle.lot.proofs.Answers.{look-fails, look-holds, readable}
+use Rattle.lot.specs.Meaning.{scanHeld, Few}
+use Rattle.lot.proofs.Answers.{scan-fails, scan-holds, readable}
 use Rattle.lot.proofs.read.Statement.{statement}
 use Rattle.lot.proofs.read.Tie as tie
 
-look-for-requires : tie.Need-look-for-requires
-look-for-requires c κs = search needs
+scan-with-room-requires : tie.Need-scan-with-room-requires
+scan-with-room-requires c κs = search needs
 
 enum-known-found : tie.Need-enum-known-found
 enum-known-found c = search needs
@@ -38,23 +38,23 @@ enum-known-found-2 c = search needs
 hand-out-requires : tie.Need-hand-out-requires
 hand-out-requires c κs =
     let s = c .before .before .before .before .before .before .before .before in
-    let held = look-holds _ (sym (ap lookHeld (c .before .before .before .found2 .given .1)) ∙ c .before .before .before .before .before .look-for .ensures .0) in
+    let held = scan-holds _ (sym (ap scanHeld (c .before .before .before .found2 .given .1)) ∙ c .before .before .before .before .before .scan-with-room .ensures .0) in
     let got = readable _ _ _ (held .good) in
     (got .good, got .room)
 
 cast-node-count : tie.Need-cast-node-count
 cast-node-count c =
-    let few = subst Few (c .before .before .before .before .before .before .before .before .found2 .given .1) (c .before .before .before .before .before .before .before .before .before .before .look-for .ensures .1) in
+    let few = subst Few (c .before .before .before .before .before .before .before .before .found2 .given .1) (c .before .before .before .before .before .before .before .before .before .before .scan-with-room .ensures .1) in
     omega (arith, few)
 
 cast-element-count : tie.Need-cast-element-count
 cast-element-count c =
-    let few = subst Few (c .before .before .before .before .before .before .before .before .before .found2 .given .1) (c .before .before .before .before .before .before .before .before .before .before .before .look-for .ensures .1) in
+    let few = subst Few (c .before .before .before .before .before .before .before .before .before .found2 .given .1) (c .before .before .before .before .before .before .before .before .before .before .before .scan-with-room .ensures .1) in
     omega (arith, few)
 
 add-end : tie.Need-add-end
 add-end c =
-    let few = subst Few (c .before .before .before .before .before .before .before .before .before .before .before .found2 .given .1) (c .before .before .before .before .before .before .before .before .before .before .before .before .before .look-for .ensures .1) in
+    let few = subst Few (c .before .before .before .before .before .before .before .before .before .before .before .found2 .given .1) (c .before .before .before .before .before .before .before .before .before .before .before .before .before .scan-with-room .ensures .1) in
     omega (arith, few)
 
 sub-result-2 : tie.Need-sub-result-2
@@ -66,7 +66,7 @@ part-result-start-2 c = search needs
 part-result-end-2 : tie.Need-part-result-end-2
 part-result-end-2 c =
     let s = c .before .before .before .before .before .before .before .before .before .before .before .before .before .before .before .before in
-    let held = look-holds _ (sym (ap lookHeld (c .before .before .before .before .before .before .before .before .before .before .before .found2 .given .1)) ∙ c .before .before .before .before .before .before .before .before .before .before .before .before .before .look-for .ensures .0) in
+    let held = scan-holds _ (sym (ap scanHeld (c .before .before .before .before .before .before .before .before .before .before .before .found2 .given .1)) ∙ c .before .before .before .before .before .before .before .before .before .before .before .before .before .scan-with-room .ensures .0) in
     let got = readable _ _ _ (held .good) in
     let bytes = bytes-by-place (s .args .file .now) (λ i. omega (arith, c .before .before .before .before .before .before .before .before .before .before .before .before .before .before .before .shared-slice-known .given i)) in
     let lot = handedOut (reading lotFile (s .args .file .now) (length (s .args .nodes .now)) (length (s .args .elements .now))) in
@@ -77,7 +77,7 @@ part-result-end-2 c =
 returns : tie.Need-returns
 unfolding readingNumbers
 returns c =
-    let failed = look-fails (reading lotFile (c .before .before .before .before .before .before .before .before .before .args .file .now) (length (c .before .before .before .before .before .before .before .before .before .args .nodes .now)) (length (c .before .before .before .before .before .before .before .before .before .args .elements .now))) (sym (ap lookHeld (c .before .before .before .before .found .given .1)) ∙ c .before .before .before .before .before .before .look-for .ensures .0) in
+    let failed = scan-fails (reading lotFile (c .before .before .before .before .before .before .before .before .before .args .file .now) (length (c .before .before .before .before .before .before .before .before .before .args .nodes .now)) (length (c .before .before .before .before .before .before .before .before .before .args .elements .now))) (sym (ap scanHeld (c .before .before .before .before .found .given .1)) ∙ c .before .before .before .before .before .before .scan-with-room .ensures .0) in
     rw failed (refl, (refl, (refl, (ap (λ (n : ℕ). n ∷ 0 ∷ 0 ∷ []) (c .before .before .refusal-number .ensures), refl))))
 
 same-length : tie.Need-same-length
@@ -90,7 +90,7 @@ returns-2 : tie.Need-returns-2
 unfolding readingNumbers
 returns-2 c =
     let s = c .before .before .before .before .before .before .before .before .before .before .before .before .before .before .before .before .before in
-    let held = look-holds _ (sym (ap lookHeld (c .before .before .before .before .before .before .before .before .before .before .before .before .found2 .given .1)) ∙ c .before .before .before .before .before .before .before .before .before .before .before .before .before .before .look-for .ensures .0) in
+    let held = scan-holds _ (sym (ap scanHeld (c .before .before .before .before .before .before .before .before .before .before .before .before .found2 .given .1)) ∙ c .before .before .before .before .before .before .before .before .before .before .before .before .before .before .scan-with-room .ensures .0) in
     let got = readable _ _ _ (held .good) in
     let bytes = bytes-by-place (s .args .file .now) (λ i. omega (arith, c .before .before .before .before .before .before .before .before .before .before .before .before .before .before .before .before .shared-slice-known .given i)) in
     let lot = handedOut (reading lotFile (s .args .file .now) (length (s .args .nodes .now)) (length (s .args .elements .now))) in
@@ -118,7 +118,7 @@ pub read-spec : {M : Type 1} → statement M
 read-spec =
     tie.close
     (tie.spec
-    look-for-requires
+    scan-with-room-requires
     enum-known-found
     refusal-number-requires
     sub-result
