@@ -237,8 +237,8 @@ fn known_at(file: &[u8], at: usize, stage: Stage, mark: Mark, elements: usize) -
     ensures { λ r. ⌜ Within (drop at (now (file .entry))) r ⌝ }
 {
     let len = length_at(file, at);
-    let placed = in_place(stage, mark);
     let right = right_length(mark, len);
+    let placed = in_place(stage, mark);
     if !placed {
         return Entry::Faulty(Refusal::OutOfPlace);
     }
@@ -259,9 +259,15 @@ pub fn entry_at(file: &[u8], at: usize, stage: Stage, elements: usize) -> Entry
         return Entry::Faulty(Refusal::CutShort);
     }
     let marked = mark_at(file, at);
+    // Each mark is written out, so that the compiler makes a way of its own for each.
     match marked {
         Marked::Unknown => Entry::Faulty(Refusal::UnknownMark),
-        Marked::Known(mark) => known_at(file, at, stage, mark, elements),
+        Marked::Known(mark) => match mark {
+            Mark::LB => known_at(file, at, stage, Mark::LB, elements),
+            Mark::ND => known_at(file, at, stage, Mark::ND, elements),
+            Mark::HX => known_at(file, at, stage, Mark::HX, elements),
+            Mark::EN => known_at(file, at, stage, Mark::EN, elements),
+        },
     }
 }
 

@@ -3,8 +3,9 @@
 //! The library decides, in whole numbers and without rounding, whether the
 //! Jacobian determinant of trilinear hexahedra is positive.  Its code is proved
 //! against the definitions of documents 01 and 02; this crate adds the
-//! declarations and nothing of its own.  Nothing has to be checked before a call:
-//! every argument is taken, and every answer is laid down there.
+//! declarations, and cuts a lot's label out of the caller's file where the library
+//! says that it stands.  Nothing has to be checked before a call: every argument
+//! is taken, and every answer is laid down there.
 
 #![deny(warnings)]
 #![deny(unsafe_op_in_unsafe_fn)]

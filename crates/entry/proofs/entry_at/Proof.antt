@@ -1,12 +1,14 @@
--- `entry_at` meets its contract: by whether four bytes are left and the mark is known. Assumes nothing.
+-- `entry_at` meets its contract: by whether four bytes are left, and by the mark. Assumes nothing.
 use mathlib.Core.Path.{sym, _∙_, ap}
+use mathlib.Core.Option.{some}
 use Prim.Native.Nat.{_≤_}
 use native.Mathlib.Omega.{arith}
 use borrow.Author.Needs.{needs}
 use lib.ListN.{length, drop, length-drop}
 use Rattle.lotfile.specs.Format.{lotFile}
 use Rattle.lotfile.specs.Steps.{entry-cut, entry-unknown, entry-known}
-use Rattle.entry.specs.Meaning.{markedHeld}
+use Rattle.entry.specs.declared.Mark.{Mark}
+use Rattle.entry.specs.Meaning.{markHeld, markedHeld}
 use Rattle.entry.proofs.entry_at.Statement.{statement}
 use Rattle.entry.proofs.entry_at.Tie as tie
 
@@ -27,8 +29,29 @@ enum-told c = search needs
 enum-known-marked : tie.Need-enum-known-marked
 enum-known-marked c = search needs
 
+enum-told-2 : tie.Need-enum-told-2
+enum-told-2 c = search needs
+
 known-at-requires : tie.Need-known-at-requires
 known-at-requires c κs = search needs
+
+enum-told-3 : tie.Need-enum-told-3
+enum-told-3 c = search needs
+
+known-at-requires-2 : tie.Need-known-at-requires-2
+known-at-requires-2 c κs = search needs
+
+enum-told-4 : tie.Need-enum-told-4
+enum-told-4 c = search needs
+
+known-at-requires-3 : tie.Need-known-at-requires-3
+known-at-requires-3 c κs = search needs
+
+enum-told-5 : tie.Need-enum-told-5
+enum-told-5 c = search needs
+
+known-at-requires-4 : tie.Need-known-at-requires-4
+known-at-requires-4 c κs = search needs
 
 returns-2 : tie.Need-returns-2
 returns-2 c =
@@ -38,10 +61,31 @@ returns-2 c =
 
 returns-3 : tie.Need-returns-3
 returns-3 c =
-    let s = c .before .before .before .before .before .before .before in
+    let s = c .before .before .before .before .before .before .before .before .before in
     let room : 4 ≤ length (drop (s .args .at) (s .args .file .now)) = omega (arith, length-drop (s .args .at) (s .args .file .now)) in
-    let known = sym (c .before .before .before .before .mark-at .ensures) ∙ ap markedHeld (c .before .before .marked .given .1) in
+    let known = sym (c .before .before .before .before .before .before .mark-at .ensures) ∙ ap markedHeld (c .before .before .before .before .marked .given .1) ∙ ap (λ (m : Mark). some (markHeld m)) (c .before .enum-told2 .given .1) in
     (c .known-at .ensures .0 ∙ sym (entry-known lotFile _ _ _ room known), c .known-at .ensures .1)
+
+returns-4 : tie.Need-returns-4
+returns-4 c =
+    let s = c .before .before .before .before .before .before .before .before .before in
+    let room : 4 ≤ length (drop (s .args .at) (s .args .file .now)) = omega (arith, length-drop (s .args .at) (s .args .file .now)) in
+    let known = sym (c .before .before .before .before .before .before .mark-at .ensures) ∙ ap markedHeld (c .before .before .before .before .marked .given .1) ∙ ap (λ (m : Mark). some (markHeld m)) (c .before .enum-told3 .given .1) in
+    (c .known-at2 .ensures .0 ∙ sym (entry-known lotFile _ _ _ room known), c .known-at2 .ensures .1)
+
+returns-5 : tie.Need-returns-5
+returns-5 c =
+    let s = c .before .before .before .before .before .before .before .before .before in
+    let room : 4 ≤ length (drop (s .args .at) (s .args .file .now)) = omega (arith, length-drop (s .args .at) (s .args .file .now)) in
+    let known = sym (c .before .before .before .before .before .before .mark-at .ensures) ∙ ap markedHeld (c .before .before .before .before .marked .given .1) ∙ ap (λ (m : Mark). some (markHeld m)) (c .before .enum-told4 .given .1) in
+    (c .known-at3 .ensures .0 ∙ sym (entry-known lotFile _ _ _ room known), c .known-at3 .ensures .1)
+
+returns-6 : tie.Need-returns-6
+returns-6 c =
+    let s = c .before .before .before .before .before .before .before .before .before in
+    let room : 4 ≤ length (drop (s .args .at) (s .args .file .now)) = omega (arith, length-drop (s .args .at) (s .args .file .now)) in
+    let known = sym (c .before .before .before .before .before .before .mark-at .ensures) ∙ ap markedHeld (c .before .before .before .before .marked .given .1) ∙ ap (λ (m : Mark). some (markHeld m)) (c .before .enum-told5 .given .1) in
+    (c .known-at4 .ensures .0 ∙ sym (entry-known lotFile _ _ _ room known), c .known-at4 .ensures .1)
 
 pub entry-at-spec : {M : Type 1} → statement M
 entry-at-spec =
@@ -52,6 +96,16 @@ entry-at-spec =
     mark-at-requires
     enum-told
     enum-known-marked
+    enum-told-2
     known-at-requires
+    enum-told-3
+    known-at-requires-2
+    enum-told-4
+    known-at-requires-3
+    enum-told-5
+    known-at-requires-4
     returns-2
-    returns-3)
+    returns-3
+    returns-4
+    returns-5
+    returns-6)
