@@ -15,14 +15,14 @@ const MAX_NAME: usize = 32;
 
 const MAX_ELEMENTS: usize = 1000;
 
-// The two letters of each mark as a number, low byte first.
-const LETTERS_LB: u32 = 16972;
+// The two letters of each mark as a number, low byte first: L is 0x4c, B is 0x42.
+const LETTERS_LB: u32 = 0x424c;
 
-const LETTERS_ND: u32 = 17486;
+const LETTERS_ND: u32 = 0x444e;
 
-const LETTERS_HX: u32 = 22600;
+const LETTERS_HX: u32 = 0x5848;
 
-const LETTERS_EN: u32 = 20037;
+const LETTERS_EN: u32 = 0x4e45;
 
 // Why a lot is refused.
 pub enum Refusal {
@@ -154,6 +154,7 @@ pub fn body_length(mark: Mark, n: usize) -> usize
     }
 }
 
+// Whether a byte may stand in a label.
 fn name_byte(b: u8) -> bool
     ensures { λ r. ⌜ r ≡ nameByte b ⌝ }
 {

@@ -39,6 +39,7 @@ struct Filled {
     pub elements: usize,
 }
 
+// The number of a refusal.
 fn refusal_number(r: Refusal) -> u32
     ensures { λ n. ⌜ n ≡ refusalNumber (refusalHeld r) ⌝ }
 {

@@ -1,16 +1,29 @@
 -- `entry_at` meets its contract: by whether four bytes are left, and by the mark. Assumes nothing.
-use mathlib.Core.Path.{sym, _∙_, ap}
+use mathlib.Core.Path.{_≡_, sym, _∙_, ap}
+use mathlib.Core.List.{List}
 use mathlib.Core.Option.{some}
-use Prim.Native.Nat.{_≤_}
+use Prim.Native.Nat.{ℕ, _-_, _≤_}
 use native.Mathlib.Omega.{arith}
 use borrow.Author.Needs.{needs}
-use lib.ListN.{length, drop, length-drop}
-use Rattle.lotfile.specs.Format.{lotFile}
+use lib.ListN.{getD, length, drop, length-drop}
+use Rattle.lotfile.specs.Format.{lotFile, Stage, markOf}
+use Rattle.lotfile.specs.Reading.{knownOf, entryOf}
 use Rattle.lotfile.specs.Steps.{entry-cut, entry-unknown, entry-known}
 use Rattle.entry.specs.declared.Mark.{Mark}
+use Rattle.entry.specs.declared.Marked.{Marked}
+use Rattle.entry.specs.declared.Marked.the-variants.{Known}
 use Rattle.entry.specs.Meaning.{markHeld, markedHeld}
 use Rattle.entry.proofs.entry_at.Statement.{statement}
 use Rattle.entry.proofs.entry_at.Tie as tie
+
+module _ (file : List ℕ) (at : ℕ) (h : 4 ≤ length file - at) where
+  four-left : 4 ≤ length (drop at file)
+  four-left = omega (arith, length-drop at file)
+
+-- the entry of a mark that was told
+by-mark : (stage : Stage) (n : ℕ) (file : List ℕ) (at : ℕ) {r : Marked} {m k : Mark} → 4 ≤ length file - at → markedHeld r ≡ markOf (getD (drop at file) 0 0) (getD (drop at file) 1 0) → r ≡ Known m → m ≡ k
+    → entryOf lotFile stage n (drop at file) ≡ knownOf lotFile stage (markHeld k) n (drop at file)
+by-mark stage n file at h marked known told = entry-known lotFile stage n (drop at file) (four-left file at h) (sym marked ∙ ap markedHeld known ∙ ap (λ (m : Mark). some (markHeld m)) told)
 
 sub-if1 : tie.Need-sub-if1
 sub-if1 c = search needs
@@ -56,36 +69,31 @@ known-at-requires-4 c κs = search needs
 returns-2 : tie.Need-returns-2
 returns-2 c =
     let s = c .before .before .before .before .before in
-    let room : 4 ≤ length (drop (s .args .at) (s .args .file .now)) = omega (arith, length-drop (s .args .at) (s .args .file .now)) in
-    (sym (entry-unknown lotFile _ _ _ room (sym (c .before .before .mark-at .ensures) ∙ ap markedHeld (c .enum-told .given .1))), tt)
+    (sym (entry-unknown lotFile _ _ _ (four-left (s .args .file .now) (s .args .at) (c .before .before .before .if1 .left)) (sym (c .before .before .mark-at .ensures) ∙ ap markedHeld (c .enum-told .given .1))), tt)
 
 returns-3 : tie.Need-returns-3
 returns-3 c =
     let s = c .before .before .before .before .before .before .before .before .before in
-    let room : 4 ≤ length (drop (s .args .at) (s .args .file .now)) = omega (arith, length-drop (s .args .at) (s .args .file .now)) in
-    let known = sym (c .before .before .before .before .before .before .mark-at .ensures) ∙ ap markedHeld (c .before .before .before .before .marked .given .1) ∙ ap (λ (m : Mark). some (markHeld m)) (c .before .enum-told2 .given .1) in
-    (c .known-at .ensures .0 ∙ sym (entry-known lotFile _ _ _ room known), c .known-at .ensures .1)
+    let same = by-mark _ _ (s .args .file .now) (s .args .at) (c .before .before .before .before .before .before .before .if1 .left) (c .before .before .before .before .before .before .mark-at .ensures) (c .before .before .before .before .marked .given .1) (c .before .enum-told2 .given .1) in
+    (c .known-at .ensures .0 ∙ sym same, c .known-at .ensures .1)
 
 returns-4 : tie.Need-returns-4
 returns-4 c =
     let s = c .before .before .before .before .before .before .before .before .before in
-    let room : 4 ≤ length (drop (s .args .at) (s .args .file .now)) = omega (arith, length-drop (s .args .at) (s .args .file .now)) in
-    let known = sym (c .before .before .before .before .before .before .mark-at .ensures) ∙ ap markedHeld (c .before .before .before .before .marked .given .1) ∙ ap (λ (m : Mark). some (markHeld m)) (c .before .enum-told3 .given .1) in
-    (c .known-at2 .ensures .0 ∙ sym (entry-known lotFile _ _ _ room known), c .known-at2 .ensures .1)
+    let same = by-mark _ _ (s .args .file .now) (s .args .at) (c .before .before .before .before .before .before .before .if1 .left) (c .before .before .before .before .before .before .mark-at .ensures) (c .before .before .before .before .marked .given .1) (c .before .enum-told3 .given .1) in
+    (c .known-at2 .ensures .0 ∙ sym same, c .known-at2 .ensures .1)
 
 returns-5 : tie.Need-returns-5
 returns-5 c =
     let s = c .before .before .before .before .before .before .before .before .before in
-    let room : 4 ≤ length (drop (s .args .at) (s .args .file .now)) = omega (arith, length-drop (s .args .at) (s .args .file .now)) in
-    let known = sym (c .before .before .before .before .before .before .mark-at .ensures) ∙ ap markedHeld (c .before .before .before .before .marked .given .1) ∙ ap (λ (m : Mark). some (markHeld m)) (c .before .enum-told4 .given .1) in
-    (c .known-at3 .ensures .0 ∙ sym (entry-known lotFile _ _ _ room known), c .known-at3 .ensures .1)
+    let same = by-mark _ _ (s .args .file .now) (s .args .at) (c .before .before .before .before .before .before .before .if1 .left) (c .before .before .before .before .before .before .mark-at .ensures) (c .before .before .before .before .marked .given .1) (c .before .enum-told4 .given .1) in
+    (c .known-at3 .ensures .0 ∙ sym same, c .known-at3 .ensures .1)
 
 returns-6 : tie.Need-returns-6
 returns-6 c =
     let s = c .before .before .before .before .before .before .before .before .before in
-    let room : 4 ≤ length (drop (s .args .at) (s .args .file .now)) = omega (arith, length-drop (s .args .at) (s .args .file .now)) in
-    let known = sym (c .before .before .before .before .before .before .mark-at .ensures) ∙ ap markedHeld (c .before .before .before .before .marked .given .1) ∙ ap (λ (m : Mark). some (markHeld m)) (c .before .enum-told5 .given .1) in
-    (c .known-at4 .ensures .0 ∙ sym (entry-known lotFile _ _ _ room known), c .known-at4 .ensures .1)
+    let same = by-mark _ _ (s .args .file .now) (s .args .at) (c .before .before .before .before .before .before .before .if1 .left) (c .before .before .before .before .before .before .mark-at .ensures) (c .before .before .before .before .marked .given .1) (c .before .enum-told5 .given .1) in
+    (c .known-at4 .ensures .0 ∙ sym same, c .known-at4 .ensures .1)
 
 pub entry-at-spec : {M : Type 1} → statement M
 entry-at-spec =
