@@ -2,8 +2,8 @@
  *
  * The library decides in whole numbers, without rounding, whether the Jacobian
  * determinant of trilinear hexahedra is positive. Its code is proved against
- * definitions that lay down every answer (crates/definitions). It also reads the
- * lot files in which meshes arrive.
+ * definitions that lay down every answer (crates/definitions). It also reads and
+ * writes the lot files in which meshes arrive, and prints slips of them.
  * Link with libbrundhal.a; no other library is needed but the C library's
  * memory functions (memset and the like).
  *
@@ -16,9 +16,10 @@
  *   bytes are answered with their number, as below.
  * - All memory is the caller's. The library keeps no pointer after a call,
  *   allocates nothing, holds no state and may be called from several threads
- *   at once. Only lent space is written: the report of an inspection, the nodes
- *   and elements of a lot. An answer with a number other than 0 leaves it
- *   untouched.
+ *   at once. Only lent space is written: the report of an inspection, the nodes,
+ *   elements and groups of a lot that is read, the file of one that is written, a
+ *   slip. An answer with a number other than 0 leaves it untouched, and space past
+ *   the end of an answer is left as it was.
  * - What the library cannot see is the caller's part: each pointer must be
  *   valid for the length that stands beside it and aligned for its type, and
  *   lent space must not overlap anything else that is handed in. A null pointer
@@ -112,49 +113,130 @@ BrundhalMove brundhal_corner(BrundhalAddress q, uint32_t n);
 BrundhalMove brundhal_parent(BrundhalAddress q);
 
 /* The longest lot file, and the lengths of lent space in which every lot fits:
- * 4,095 nodes are the most that a file holds, and 1,000 elements are allowed. */
+ * 4,095 nodes are the most that a file holds, 1,000 elements are allowed, and a
+ * file holds at most 16,382 groups and 58,244 bytes of their names. */
 #define BRUNDHAL_LOT_BYTES 65536
 #define BRUNDHAL_LOT_NODE_WORDS (3 * 4095)
 #define BRUNDHAL_LOT_ELEMENT_WORDS (8 * 1000)
+#define BRUNDHAL_LOT_NAME_BYTES 58244
+#define BRUNDHAL_LOT_GROUPS 16382
 
-/* The answer of reading a lot file. number is 0 for an accepted lot, with its
- * numbers of nodes and of elements; its label is a part of the caller's own file,
- * label_len bytes from file + label_at, with no 0 byte at its end. A refused lot
- * has all else 0, and its number is
- *   20  the file is longer than 65,536 bytes; tested first
- * then, record by record, the first of
- *   21  fewer than four bytes are left where a record is due
- *   22  the mark is none of LB, ND, HX, EN
- *   24  the mark is out of place
- *   23  the length is not one of the mark
- *   21  the body is cut short
- *   25  a label byte is not in 32..126
- *   26  it is a 1,001st element
- * and after the last record
- *   24  bytes follow it, whatever they are
- *   27  the lent space is too small for the nodes or for the elements */
-typedef struct {
-    uint32_t number;
-    uint32_t nodes, elements;
-    uint32_t label_at, label_len;
-} BrundhalLot;
-
-/* Reads a lot file: records of a two-byte mark, a two-byte length and a body,
- * every number low byte first.
+/* A lot file is records of a two-byte mark, a two-byte length and a body, every
+ * number low byte first.
  *
  *   mark  length    body                                  how many, in this order
  *   LB    0 to 32   the label, bytes from 32 to 126       1
  *   ND    12        a node: x, y, z, signed 32-bit        any number
- *   HX    32        an element: eight unsigned 32-bit     0 to 1,000
+ *   HX    32        an element: eight unsigned 32-bit     0 to 1,000, with
+ *   GR    0 to 32   a group's name, bytes as a label's    any number among them
  *   EN    0         none                                  1, and nothing after it
  *
+ * A group is in force from where it stands until the next one. The groups of a
+ * lot are three arrays:
+ *   names     the names of all groups, laid end to end
+ *   lengths   the length of each group's name
+ *   befores   of each group, how many elements stand before it */
+
+/* The answer of reading a lot file. number is 0 for an accepted lot, with its
+ * numbers of nodes, of elements and of groups, and names, the bytes of all groups'
+ * names together; its label is a part of the caller's own file, len bytes from
+ * file + start, with no 0 byte at its end. A refused lot has all else 0, and its
+ * number is
+ *   20  the file is longer than 65,536 bytes; tested first
+ * then, record by record, the first of
+ *   21  fewer than four bytes are left where a record is due
+ *   22  the mark is none of LB, ND, HX, GR, EN
+ *   24  the mark is out of place
+ *   23  the length is not one of the mark
+ *   21  the body is cut short
+ *   25  a byte of a label or name is not in 32..126
+ *   26  it is a 1,001st element
+ * and after the last record
+ *   24  bytes follow it, whatever they are
+ *   27  one of the five lent arrays is too small */
+typedef struct BrundhalLot {
+    uint32_t number;
+    uint32_t nodes, elements, groups;
+    uint32_t names;
+    uint32_t start, len;
+} BrundhalLot;
+
+/* Reads a lot file.
  *   nodes     lent space of at least three words a node, x, y, z of each in turn
  *   elements  lent space of at least eight words an element
- * as brundhal_inspect takes them. Both are written only if the lot is accepted,
- * and only as far as its nodes and elements go. */
+ * as brundhal_inspect takes them, and
+ *   names     lent space of at least a byte for each of the names' bytes
+ *   lengths, befores   lent space of at least a word a group, each
+ * as brundhal_name and brundhal_write_lot take them. All five are written only if
+ * the lot is accepted, and only as far as it goes. */
 BrundhalLot brundhal_read_lot(const uint8_t *file, size_t file_len,
                               int32_t *nodes, size_t nodes_len,
-                              uint32_t *elements, size_t elements_len);
+                              uint32_t *elements, size_t elements_len,
+                              uint8_t *names, size_t names_len,
+                              uint32_t *lengths, size_t lengths_len,
+                              uint32_t *befores, size_t befores_len);
+
+/* The answer of writing a lot file: number 0 with the file's length, or 0 as its
+ * length with
+ *    2  nodes_len is no multiple of 3
+ *    3  elements_len is no multiple of 8
+ *   24  the groups do not fit together: lengths_len is not befores_len, the lengths
+ *       do not add up to names_len, or a count of elements before a group is less
+ *       than the one before it or more than there are elements
+ *   23  the label or a group's name is longer than 32 bytes
+ *   25  a byte of the label or of the names is not in 32..126
+ *   26  there are more than 1,000 elements
+ *   20  the file would be longer than 65,536 bytes
+ *   27  out_len is less than the file's length
+ * tested in this order. */
+typedef struct BrundhalWritten {
+    uint32_t number;
+    uint32_t len;
+} BrundhalWritten;
+
+/* Writes a lot file to the front of out. What is written reads back the same, and
+ * a lot that was read is written back byte for byte. */
+BrundhalWritten brundhal_write_lot(const uint8_t *label, size_t label_len,
+                                   const int32_t *nodes, size_t nodes_len,
+                                   const uint32_t *elements, size_t elements_len,
+                                   const uint8_t *names, size_t names_len,
+                                   const uint32_t *lengths, size_t lengths_len,
+                                   const uint32_t *befores, size_t befores_len,
+                                   uint8_t *out, size_t out_len);
+
+/* The name that an element bears, a part of the caller's own bytes with no 0 byte
+ * at its end: grouped 1, and len bytes from names + start; or grouped 0, and the
+ * whole label, start 0 and len its length. */
+typedef struct BrundhalName {
+    uint32_t grouped;
+    size_t start, len;
+} BrundhalName;
+
+/* Names an element, counted from 0. It has its name from the last group in the
+ * list that stands after no more elements than its number. If there is none, or the
+ * name is empty, it bears the label. Any arrays are taken: groups are read as far as
+ * both lists go, and a name that would reach past the end of names is cut there. */
+BrundhalName brundhal_name(const uint8_t *label, size_t label_len,
+                           const uint8_t *names, size_t names_len,
+                           const uint32_t *lengths, size_t lengths_len,
+                           const uint32_t *befores, size_t befores_len,
+                           uint32_t element);
+
+/* The length of lent space for a slip: every slip fits. */
+#define BRUNDHAL_SLIP_BYTES 262144
+
+/* Prints the slip of a lot file to the front of out, and answers its length. Of an
+ * accepted lot, inspected at depth 3:
+ *   lot LABEL
+ *   N NAME w0 w1 w2 w3 w4 w5 w6 w7      an element from 1, its name, its record
+ *   tally VALID INVALID UNDECIDED REFUSED
+ *   stamp sound                         or faulty
+ * and of a refused one the line
+ *   refused NUMBER
+ * Every line ends in one line feed; there is no 0 byte at the end. An empty name is
+ * printed as nothing, with the spaces beside it. */
+size_t brundhal_slip(const uint8_t *file, size_t file_len,
+                     uint8_t out[BRUNDHAL_SLIP_BYTES]);
 
 #ifdef __cplusplus
 }

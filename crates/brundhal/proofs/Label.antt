@@ -6,7 +6,7 @@ use lib.ListN.{length, take, drop}
 use Rattle.foundation.specs.Lists.{All}
 use Rattle.lotfile.specs.Numbers.{Byte}
 use Rattle.lotfile.specs.Format.{FileLimits}
-use Rattle.lotfile.specs.Reading.{refusalNumber, Reading, accepted, refused, readingNumber, reading, handedOut, labelPlace}
+use Rattle.lotfile.specs.Reading.{refusalNumber, Reading, accepted, refused, readingNumber, Room, reading, handedOut, labelPlace}
 use Rattle.lotfile.specs.Numbered.{not-zero}
 use Rattle.lotfile.specs.Accepted.{reading-accepted, accepted-label}
 use Rattle.brundhal.specs.Meaning.{labelStart, other-start}
@@ -15,10 +15,10 @@ pub start-is-place : (r : Reading) → labelStart (readingNumber r) ≡ labelPla
 start-is-place (accepted lot) = refl
 start-is-place (refused r) = other-start (refusalNumber r) (not-zero r)
 
-pub label-in-file : (F : FileLimits) (file : List ℕ) (nodes elements : ℕ) → All Byte file
-    → take (length (handedOut (reading F file nodes elements) .label)) (drop (labelPlace (reading F file nodes elements)) file) ≡ handedOut (reading F file nodes elements) .label
-label-in-file F file nodes elements h = go (reading F file nodes elements) refl
+pub label-in-file : (F : FileLimits) (file : List ℕ) (room : Room) → All Byte file
+    → take (length (handedOut (reading F file room) .label)) (drop (labelPlace (reading F file room)) file) ≡ handedOut (reading F file room) .label
+label-in-file F file room h = go (reading F file room) refl
   where
-    go : (r : Reading) → reading F file nodes elements ≡ r → take (length (handedOut r .label)) (drop (labelPlace r) file) ≡ handedOut r .label
+    go : (r : Reading) → reading F file room ≡ r → take (length (handedOut r .label)) (drop (labelPlace r) file) ≡ handedOut r .label
     go (refused w) e = refl
-    go (accepted lot) e = sym (accepted-label F file lot h (reading-accepted F file nodes elements lot e .0))
+    go (accepted lot) e = sym (accepted-label F file lot h (reading-accepted F file room lot e .0))

@@ -3,9 +3,9 @@ use mathlib.Core.Path.{_≡_, refl, ap}
 use mathlib.Core.Bool.{Bool, true, false}
 use mathlib.Core.List.{List, [], _∷_, _++_}
 use borrow.Author.Tests.{eq-eqb, ne-eqb}
-use Prim.Native.Nat.{ℕ, zero, suc}
+use Prim.Native.Nat.{ℕ, zero, suc, _≤_}
 use lib.Dec.{eqb}
-use lib.ListN.{length}
+use lib.ListN.{length, take, drop}
 use lib.IntN.{ℤ}
 use Rattle.definitions.specs.Address.{Address, Move}
 use Rattle.definitions.specs.Mesh.{Counts, Inspection, accepted, inspectionNumber, inspectionCounts, Stamp, sound, faulty, stampOf, Bounds, boundsNumber, boundsLow, boundsHigh}
@@ -15,6 +15,14 @@ use Rattle.brundhal.specs.declared.BrundhalAddress.{BrundhalAddress}
 use Rattle.lotfile.specs.Reading.{Reading, handedOut, labelPlace, readingNumbers}
 use Rattle.brundhal.specs.declared.BrundhalMove.{BrundhalMove}
 use Rattle.brundhal.specs.declared.BrundhalLot.{BrundhalLot}
+use Rattle.brundhal.specs.declared.BrundhalWritten.{BrundhalWritten}
+use Rattle.brundhal.specs.declared.BrundhalName.{BrundhalName}
+use Rattle.lotfile.specs.Format.{lotFile, Group}
+use Rattle.lotfile.specs.Naming.{nameInForce, placeInForce, isEmpty}
+use Rattle.lotfile.specs.Writing.{unwritableNumber, Writing, fileOf, writingNumber}
+use Rattle.writer.specs.declared.Written.{Written}
+use Rattle.writer.specs.declared.Written.the-variants.{Length, Refused}
+use Rattle.writer.specs.Meaning.{Answer, lengthIs, refuses}
 
 -- an inspection's number and counts
 pub record Numbers : Type 0 where
@@ -77,4 +85,30 @@ abbrev pub lotNumbers : Reading → List ℕ
 lotNumbers r = readingNumbers r ++ (labelPlace r ∷ length (handedOut r .label) ∷ [])
 
 abbrev pub lotHeld : BrundhalLot → List ℕ
-lotHeld r = r .number ∷ r .nodes ∷ r .elements ∷ r .start ∷ r .len ∷ []
+lotHeld r = r .number ∷ r .nodes ∷ r .elements ∷ r .groups ∷ r .names ∷ r .start ∷ r .len ∷ []
+
+-- the writing of a lot: its number and the file's length; a file is short, so that its length fits
+abbrev pub writtenNumbersHeld : BrundhalWritten → List ℕ
+writtenNumbersHeld r = r .number ∷ r .len ∷ []
+
+abbrev pub answerNumbers : Answer → List ℕ
+answerNumbers (lengthIs n) = 0 ∷ n ∷ []
+answerNumbers (refuses r) = unwritableNumber r ∷ 0 ∷ []
+
+abbrev pub writingNumbers : Writing → List ℕ
+writingNumbers w = writingNumber w ∷ length (fileOf w) ∷ []
+
+abbrev pub ShortAnswer : Written → Type 0
+ShortAnswer (Length n) = n ≤ lotFile .bytes
+ShortAnswer (Refused r) = Unit
+
+-- a name: 1 and its place and length among the names, or 0, 0 and the length of the label
+abbrev pub nameHeld : BrundhalName → List ℕ
+nameHeld r = r .grouped ∷ r .start ∷ r .len ∷ []
+
+abbrev pub nameNumbers : List ℕ → List Group → ℕ → List ℕ
+nameNumbers label gs e = elim (isEmpty (nameInForce [] gs e)) [ true ↦ 0 ∷ 0 ∷ length label ∷ [] | false ↦ 1 ∷ placeInForce 0 0 gs e ∷ length (nameInForce [] gs e) ∷ [] ]
+
+-- the bytes that these numbers tell
+abbrev pub nameTold : BrundhalName → List ℕ → List ℕ → List ℕ
+nameTold r label names = elim (bit (r .grouped)) [ true ↦ take (r .len) (drop (r .start) names) | false ↦ take (r .len) (drop (r .start) label) ]

@@ -9,14 +9,22 @@ ghost use Rattle.definitions.specs.Mesh.{inspection, reportAfter, boundsOf};
 ghost use Rattle.address.specs.Meaning.{addressOf, moveOf};
 ghost use Rattle.inspector.specs.Meaning.{inspectionHeld, stampHeld, boundsHeld};
 ghost use Rattle.lotfile.specs.Format.{lotFile};
-ghost use Rattle.lotfile.specs.Reading.{readInto, handedOut, laidOver};
-ghost use Rattle.brundhal.specs.Meaning.{labelStart, lotNumbers, lotHeld, numbersOf, numbersHeld, pairOf, pairHeld, stampNumber, stampFor, addressHeld, moveHeld};
+ghost use Rattle.lotfile.specs.Reading.{readInto, handedOut};
+ghost use Rattle.foundation.specs.Laid.{laidOver};
+ghost use Rattle.lotfile.specs.Runs.{groupsOf};
+ghost use Rattle.lotfile.specs.Naming.{nameOf};
+ghost use Rattle.lotfile.specs.Writing.{unwritableNumber, writing, fileOf};
+ghost use Rattle.printed.specs.Slip.{slipOf};
+ghost use Rattle.writer.specs.Meaning.{runs, unwritableHeld, writtenHeld};
+ghost use Rattle.brundhal.specs.Meaning.{ShortAnswer, writtenNumbersHeld, answerNumbers, writingNumbers, nameHeld, nameTold, nameNumbers, labelStart, lotNumbers, lotHeld, numbersOf, numbersHeld, pairOf, pairHeld, stampNumber, stampFor, addressHeld, moveHeld};
 use address::Address;
 use address::Moved;
 use inspector::Bounds;
 use inspector::Inspection;
 use inspector::Stamp;
 use mesh::Counts;
+use writer::Unwritable;
+use writer::Written;
 
 // The number that answers an inspection, 0 or 1 to 4, and the four counts.
 #[repr(C)]
@@ -55,15 +63,32 @@ pub struct BrundhalMove {
     pub c: u32,
 }
 
-// The number that answers the reading of a lot file, 0 or 20 to 27, the numbers of nodes and elements, and where in the file the label
-// stands: its first byte's place and its length.
+// The number that answers the reading of a lot file, 0 or 20 to 27, the numbers of nodes, elements, groups and bytes of the groups' names,
+// and where in the file the label stands: its first byte's place and its length.
 #[repr(C)]
 pub struct BrundhalLot {
     pub number: u32,
     pub nodes: u32,
     pub elements: u32,
+    pub groups: u32,
+    pub names: u32,
     pub start: u32,
     pub len: u32,
+}
+
+// The number that answers the writing of a lot file, 0 with the file's length, or the number that refuses it with 0.
+#[repr(C)]
+pub struct BrundhalWritten {
+    pub number: u32,
+    pub len: u32,
+}
+
+// The name that an element bears: 1 and the place and length of a part of the names; or 0, 0 and the length of the label, whose whole it is.
+#[repr(C)]
+pub struct BrundhalName {
+    pub grouped: u32,
+    pub start: usize,
+    pub len: usize,
 }
 
 // A refused mesh: its number, and counts 0.
@@ -237,22 +262,116 @@ pub extern "C" fn brundhal_read_lot(
     file: &[u8],
     nodes: &mut [i32],
     elements: &mut [u32],
+    names: &mut [u8],
+    lengths: &mut [u32],
+    befores: &mut [u32],
 ) -> BrundhalLot
-    ensures { λ r. ⌜ lotHeld r ≡ lotNumbers (readInto lotFile (now (file .entry)) (now (nodes .entry)) (now (elements .entry))) ⌝ }
-    ensures { λ r. ⌜ take (r .len) (drop (r .start) (now (file .entry))) ≡ handedOut (readInto lotFile (now (file .entry)) (now (nodes .entry)) (now (elements .entry))) .label ⌝ }
-    ensures { λ r. ⌜ now (nodes .exit) ≡ laidOver (handedOut (readInto lotFile (now (file .entry)) (now (nodes .entry)) (now (elements .entry))) .nodes) (now (nodes .entry)) ⌝ }
-    ensures { λ r. ⌜ now (elements .exit) ≡ laidOver (handedOut (readInto lotFile (now (file .entry)) (now (nodes .entry)) (now (elements .entry))) .elements) (now (elements .entry)) ⌝ }
+    ensures { λ r. ⌜ lotHeld r ≡ lotNumbers (readInto lotFile (now (file .entry)) (now (nodes .entry)) (now (elements .entry)) (now (names .entry)) (now (lengths .entry)) (now (befores .entry))) ⌝ }
+    ensures { λ r. ⌜ take (r .len) (drop (r .start) (now (file .entry))) ≡ handedOut (readInto lotFile (now (file .entry)) (now (nodes .entry)) (now (elements .entry)) (now (names .entry)) (now (lengths .entry)) (now (befores .entry))) .label ⌝ }
+    ensures { λ r. ⌜ now (nodes .exit) ≡ laidOver (handedOut (readInto lotFile (now (file .entry)) (now (nodes .entry)) (now (elements .entry)) (now (names .entry)) (now (lengths .entry)) (now (befores .entry))) .nodes) (now (nodes .entry)) ⌝ }
+    ensures { λ r. ⌜ now (elements .exit) ≡ laidOver (handedOut (readInto lotFile (now (file .entry)) (now (nodes .entry)) (now (elements .entry)) (now (names .entry)) (now (lengths .entry)) (now (befores .entry))) .elements) (now (elements .entry)) ⌝ }
+    ensures { λ r. ⌜ now (names .exit) ≡ laidOver (handedOut (readInto lotFile (now (file .entry)) (now (nodes .entry)) (now (elements .entry)) (now (names .entry)) (now (lengths .entry)) (now (befores .entry))) .names) (now (names .entry)) ⌝ }
+    ensures { λ r. ⌜ now (lengths .exit) ≡ laidOver (handedOut (readInto lotFile (now (file .entry)) (now (nodes .entry)) (now (elements .entry)) (now (names .entry)) (now (lengths .entry)) (now (befores .entry))) .lengths) (now (lengths .entry)) ⌝ }
+    ensures { λ r. ⌜ now (befores .exit) ≡ laidOver (handedOut (readInto lotFile (now (file .entry)) (now (nodes .entry)) (now (elements .entry)) (now (names .entry)) (now (lengths .entry)) (now (befores .entry))) .befores) (now (befores .entry)) ⌝ }
 {
-    let mut answer = [0u32; 3];
-    let label = lot::read(file, nodes, elements, &mut answer);
+    let mut answer = [0u32; 5];
+    let label = lot::read(file, nodes, elements, names, lengths, befores, &mut answer);
     let number = answer[0];
     let n = answer[1];
     let e = answer[2];
+    let g = answer[3];
+    let b = answer[4];
     BrundhalLot {
         number: number,
         nodes: n,
         elements: e,
+        groups: g,
+        names: b,
         start: label_start(number),
         len: label.len() as u32,
     }
+}
+
+fn unwritable_number(r: Unwritable) -> u32
+    ensures { λ n. ⌜ n ≡ unwritableNumber (unwritableHeld r) ⌝ }
+{
+    match r {
+        Unwritable::OddNodes => 2,
+        Unwritable::OddElements => 3,
+        Unwritable::GroupsApart => 24,
+        Unwritable::NameTooLong => 23,
+        Unwritable::BadByte => 25,
+        Unwritable::TooManyElements => 26,
+        Unwritable::TooLong => 20,
+        Unwritable::NoRoom => 27,
+    }
+}
+
+fn written(answer: Written) -> BrundhalWritten
+    requires { ⌜ ShortAnswer answer ⌝ }
+    ensures { λ r. ⌜ writtenNumbersHeld r ≡ answerNumbers (writtenHeld answer) ⌝ }
+{
+    match answer {
+        Written::Length(n) => BrundhalWritten {
+            number: 0,
+            len: n as u32,
+        },
+        Written::Refused(r) => BrundhalWritten {
+            number: unwritable_number(r),
+            len: 0,
+        },
+    }
+}
+
+// Writes a lot file: `writer::write`.
+#[no_mangle]
+pub extern "C" fn brundhal_write_lot(
+    label: &[u8],
+    nodes: &[i32],
+    elements: &[u32],
+    names: &[u8],
+    lengths: &[u32],
+    befores: &[u32],
+    out: &mut [u8],
+) -> BrundhalWritten
+    ensures { λ r. ⌜ writtenNumbersHeld r ≡ writingNumbers (writing lotFile (runs (now (label .entry)) (now (nodes .entry)) (now (elements .entry)) (now (names .entry)) (now (lengths .entry)) (now (befores .entry))) (length (now (out .entry)))) ⌝ }
+    ensures { λ r. ⌜ now (out .exit) ≡ laidOver (fileOf (writing lotFile (runs (now (label .entry)) (now (nodes .entry)) (now (elements .entry)) (now (names .entry)) (now (lengths .entry)) (now (befores .entry))) (length (now (out .entry))))) (now (out .entry)) ⌝ }
+{
+    written(writer::write(label, nodes, elements, names, lengths, befores, out))
+}
+
+// The name that an element bears: `naming::name_of`. C has no part of a slice, so it is told by its place and its length.
+#[no_mangle]
+pub extern "C" fn brundhal_name(
+    label: &[u8],
+    names: &[u8],
+    lengths: &[u32],
+    befores: &[u32],
+    element: u32,
+) -> BrundhalName
+    ensures { λ r. ⌜ nameHeld r ≡ nameNumbers (now (label .entry)) (groupsOf (now (names .entry)) (now (lengths .entry)) (now (befores .entry))) element ⌝ }
+    ensures { λ r. ⌜ nameTold r (now (label .entry)) (now (names .entry)) ≡ nameOf (now (label .entry)) (groupsOf (now (names .entry)) (now (lengths .entry)) (now (befores .entry))) element ⌝ }
+{
+    let part = naming::part_in_force(names, lengths, befores, element);
+    if part.len == 0 {
+        return BrundhalName {
+            grouped: 0,
+            start: 0,
+            len: label.len(),
+        };
+    }
+    BrundhalName {
+        grouped: 1,
+        start: part.start,
+        len: part.len,
+    }
+}
+
+// Writes the slip of a lot file to the front of the lent bytes and returns its length: `slip::write`.
+#[no_mangle]
+pub extern "C" fn brundhal_slip(file: &[u8], out: &mut [u8; 262144]) -> usize
+    ensures { λ r. ⌜ r ≡ length (slipOf base lotFile 3 (now (file .entry))) ⌝ }
+    ensures { λ r. ⌜ now (out .exit) ≡ laidOver (slipOf base lotFile 3 (now (file .entry))) (now (out .entry)) ⌝ }
+{
+    slip::write(file, out)
 }

@@ -3,12 +3,12 @@ use mathlib.Core.List.{List}
 use mathlib.Core.Option.{Option, none, some}
 use Prim.Native.Nat.{ℕ, _+_, _≤_}
 use lib.ListN.{length, take, drop}
-use Rattle.lotfile.specs.Format.{Mark as FileMark, LB as markLB, ND as markND, HX as markHX, EN as markEN, Stage as FileStage, atLabel, atNodes, atElements, atEnd}
+use Rattle.lotfile.specs.Format.{Mark as FileMark, LB as markLB, ND as markND, HX as markHX, GR as markGR, EN as markEN, Stage as FileStage, atLabel, atNodes, atElements, atEnd}
 use Rattle.lotfile.specs.Reading.{Refusal as FileRefusal, tooLong, cutShort, unknownMark, wrongLength, outOfPlace, badByte, tooManyElements, noRoom, Entry as FileEntry, faulty, whole}
 use Rattle.entry.specs.declared.Refusal.{Refusal}
 use Rattle.entry.specs.declared.Refusal.the-variants.{TooLong, CutShort, UnknownMark, WrongLength, OutOfPlace, BadByte, TooManyElements, NoRoom}
 use Rattle.entry.specs.declared.Mark.{Mark}
-use Rattle.entry.specs.declared.Mark.the-variants.{LB, ND, HX, EN}
+use Rattle.entry.specs.declared.Mark.the-variants.{LB, ND, HX, GR, EN}
 use Rattle.entry.specs.declared.Marked.{Marked}
 use Rattle.entry.specs.declared.Marked.the-variants.{Known, Unknown}
 use Rattle.entry.specs.declared.Stage.{Stage}
@@ -32,6 +32,7 @@ abbrev pub markHeld : Mark → FileMark
 markHeld LB = markLB
 markHeld ND = markND
 markHeld HX = markHX
+markHeld GR = markGR
 markHeld EN = markEN
 
 abbrev pub markedHeld : Marked → Option FileMark

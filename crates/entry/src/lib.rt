@@ -7,22 +7,26 @@ ghost use Prim.Native.Nat.{_+_, _/_, _%_, _≤_, _<_};
 ghost use lib.ListN.{length, getD, take, drop};
 ghost use Rattle.lotfile.specs.Numbers.{number};
 ghost use Rattle.lotfile.specs.Format.{lotFile, markOf, rightLength, inPlace, stageAfter, nameByte, nameBytes};
-ghost use Rattle.lotfile.specs.Reading.{bodyFault, bodyOf, knownOf, entryOf, hasEnded};
+ghost use Rattle.lotfile.specs.Reading.{nameFault, bodyFault, bodyOf, knownOf, entryOf, hasEnded};
 ghost use Rattle.entry.specs.Meaning.{markHeld, markedHeld, stageHeld, faultHeld, entryHeld, Within};
 
 // The limits of the definitions' `lotFile`.
-const MAX_NAME: usize = 32;
+pub const MAX_BYTES: usize = 65536;
 
-const MAX_ELEMENTS: usize = 1000;
+pub const MAX_NAME: usize = 32;
+
+pub const MAX_ELEMENTS: usize = 1000;
 
 // The two letters of each mark as a number, low byte first: L is 0x4c, B is 0x42.
-const LETTERS_LB: u32 = 0x424c;
+pub const LETTERS_LB: u32 = 0x424c;
 
-const LETTERS_ND: u32 = 0x444e;
+pub const LETTERS_ND: u32 = 0x444e;
 
-const LETTERS_HX: u32 = 0x5848;
+pub const LETTERS_HX: u32 = 0x5848;
 
-const LETTERS_EN: u32 = 0x4e45;
+pub const LETTERS_GR: u32 = 0x5247;
+
+pub const LETTERS_EN: u32 = 0x4e45;
 
 // Why a lot is refused.
 pub enum Refusal {
@@ -41,6 +45,7 @@ pub enum Mark {
     LB,
     ND,
     HX,
+    GR,
     EN,
 }
 
@@ -50,7 +55,7 @@ pub enum Marked {
     Unknown,
 }
 
-// Which marks are in place: none was read yet; the label or a node was; an element was; the end was.
+// Which marks are in place: none was read yet; the label or a node was; an element or a group was; the end was.
 pub enum Stage {
     AtLabel,
     AtNodes,
@@ -83,6 +88,9 @@ fn mark_of(letters: u32) -> Marked
     if letters == LETTERS_LB {
         return Marked::Known(Mark::LB);
     }
+    if letters == LETTERS_GR {
+        return Marked::Known(Mark::GR);
+    }
     if letters == LETTERS_EN {
         return Marked::Known(Mark::EN);
     }
@@ -98,18 +106,21 @@ fn in_place(stage: Stage, mark: Mark) -> bool
             Mark::LB => true,
             Mark::ND => false,
             Mark::HX => false,
+            Mark::GR => false,
             Mark::EN => false,
         },
         Stage::AtNodes => match mark {
             Mark::LB => false,
             Mark::ND => true,
             Mark::HX => true,
+            Mark::GR => true,
             Mark::EN => true,
         },
         Stage::AtElements => match mark {
             Mark::LB => false,
             Mark::ND => false,
             Mark::HX => true,
+            Mark::GR => true,
             Mark::EN => true,
         },
         Stage::AtEnd => false,
@@ -124,6 +135,7 @@ pub fn stage_after(mark: Mark) -> Stage
         Mark::LB => Stage::AtNodes,
         Mark::ND => Stage::AtNodes,
         Mark::HX => Stage::AtElements,
+        Mark::GR => Stage::AtElements,
         Mark::EN => Stage::AtEnd,
     }
 }
@@ -136,11 +148,12 @@ fn right_length(mark: Mark, n: usize) -> bool
         Mark::LB => n <= MAX_NAME,
         Mark::ND => n == 12,
         Mark::HX => n == 32,
+        Mark::GR => n <= MAX_NAME,
         Mark::EN => n == 0,
     }
 }
 
-// The length of an entry's body, where it gives n and that is right. For all but a label this is known from the mark, so that the next
+// The length of an entry's body, where it gives n and that is right. For a node, an element and the end this is known from the mark, so that the next
 // entry is found without waiting for n to be read.
 pub fn body_length(mark: Mark, n: usize) -> usize
     requires { ⌜ rightLength lotFile (markHeld mark) n ≡ true ⌝ }
@@ -150,19 +163,20 @@ pub fn body_length(mark: Mark, n: usize) -> usize
         Mark::LB => n,
         Mark::ND => 12,
         Mark::HX => 32,
+        Mark::GR => n,
         Mark::EN => 0,
     }
 }
 
-// Whether a byte may stand in a label.
+// Whether a byte may stand in a label or a group's name.
 fn name_byte(b: u8) -> bool
     ensures { λ r. ⌜ r ≡ nameByte b ⌝ }
 {
     (32 <= b) & (b <= 126)
 }
 
-// Whether all bytes may stand in a label.
-fn name_bytes(name: &[u8]) -> bool
+// Whether all bytes may stand in a label or a group's name.
+pub fn name_bytes(name: &[u8]) -> bool
     ensures { λ r. ⌜ r ≡ nameBytes (now (name .entry)) ⌝ }
 {
     for k in 0..name.len() {
@@ -174,18 +188,23 @@ fn name_bytes(name: &[u8]) -> bool
     true
 }
 
+// The fault of a label or a group's name.
+fn name_fault(name: &[u8]) -> Body
+    ensures { λ r. ⌜ faultHeld r ≡ nameFault (now (name .entry)) ⌝ }
+{
+    if name_bytes(name) {
+        Body::Right
+    } else {
+        Body::Wrong(Refusal::BadByte)
+    }
+}
+
 // The fault of a whole entry, where so many elements stand before it.
 fn body_fault(mark: Mark, elements: usize, body: &[u8]) -> Body
     ensures { λ r. ⌜ faultHeld r ≡ bodyFault lotFile (markHeld mark) elements (now (body .entry)) ⌝ }
 {
     match mark {
-        Mark::LB => {
-            if name_bytes(body) {
-                Body::Right
-            } else {
-                Body::Wrong(Refusal::BadByte)
-            }
-        }
+        Mark::LB => name_fault(body),
         Mark::ND => Body::Right,
         Mark::HX => {
             if elements < MAX_ELEMENTS {
@@ -194,6 +213,7 @@ fn body_fault(mark: Mark, elements: usize, body: &[u8]) -> Body
                 Body::Wrong(Refusal::TooManyElements)
             }
         }
+        Mark::GR => name_fault(body),
         Mark::EN => Body::Right,
     }
 }
@@ -267,6 +287,7 @@ pub fn entry_at(file: &[u8], at: usize, stage: Stage, elements: usize) -> Entry
             Mark::LB => known_at(file, at, stage, Mark::LB, elements),
             Mark::ND => known_at(file, at, stage, Mark::ND, elements),
             Mark::HX => known_at(file, at, stage, Mark::HX, elements),
+            Mark::GR => known_at(file, at, stage, Mark::GR, elements),
             Mark::EN => known_at(file, at, stage, Mark::EN, elements),
         },
     }

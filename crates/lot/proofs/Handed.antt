@@ -1,170 +1,210 @@
--- How far the handing out of a file without fault has come: what was read so far lies over the lent words. Assumes nothing.
+-- How far the handing out of a file without fault has come: what was read so far lies over the lent runs. Assumes nothing.
 use mathlib.Core.Path.{_≡_, refl, sym, _∙_, ap, ap₂, subst}
 use mathlib.Core.Bool.{true, false}
-use mathlib.Core.List.{List, [], _∷_, _++_, map}
+use mathlib.Core.List.{List, [], _∷_, _++_}
 use mathlib.Core.Option.{none, some}
-use Prim.Native.Nat.{ℕ, zero, suc, _+_, _-_, _*_, _/_, _≤_, _<_}
+use Prim.Native.Nat.{ℕ, _+_, _*_, _/_, _≤_, _<_}
 use native.Mathlib.Omega.{arith}
-use borrow.Author.Tests.{eqb-true}
 use lib.ListN.{getD, length, take, drop, length-append, length-drop}
-use lib.Seq.{take-nil, take-append-seam, drop-append-add, drop-drop, take-take}
+use lib.Seq.{drop-drop}
 use lib.IntN.{ℤ}
-use Rattle.foundation.specs.Lists.{append-nil}
-use Rattle.lotfile.specs.Numbers.{number, signed, unsigneds, signeds}
-use Rattle.lotfile.specs.Format.{lotFile, Lot, Mark, LB, ND, HX, EN, markOf, rightLength, Stage, atLabel, stageAfter}
-use Rattle.lotfile.specs.Reading.{whole, entryOf, taken, accepted, hasEnded, noLot, readLot, laidOver}
+use Rattle.foundation.specs.Laid.{put, laidOver, length-laid, put-behind}
+use Rattle.lotfile.specs.Numbers.{number}
+use Rattle.lotfile.specs.Format.{lotFile, Lot, Mark, markOf, rightLength, Stage, atLabel, stageAfter}
+use Rattle.lotfile.specs.Runs.{Runs, namesOf, lengthsOf, beforesOf, runsOf}
+use Rattle.lotfile.specs.Reading.{whole, entryOf, held, joined, taken, accepted, hasEnded, noLot, readLot, lotOf}
+use Rattle.lotfile.specs.Joined.{names-append, lengths-append, befores-append}
 use Rattle.lotfile.specs.Entries.{IsWhole, whole-is}
-use Rattle.lotfile.specs.Reached.{Reached, Next, reached-start, reached-whole, reached-next, reached-grows, reached-all}
+use Rattle.lotfile.specs.Reached.{Reached, Next, Grows, reached-next, reached-grows, reached-all}
 use Rattle.lotfile.specs.Accepted.{accepted-short}
-use Rattle.lot.specs.declared.Filled.{Filled}
-use Rattle.lot.specs.Meaning.{newNodes, newElements, put, filledOf, Fitting, HasRoom}
+use Rattle.lot.specs.declared.Counts.{Counts}
+use Rattle.lot.specs.Meaning.{noCounts, countedOf, Small, newRuns, Fitting, Handable}
+use Rattle.lot.proofs.Seen.{Seen, before, seen-start, seen-whole, seen-whole-lot, seen-small}
+use Rattle.lot.proofs.Answers.{as-many-lengths, as-many-befores}
+use Rattle.lot.proofs.EntryRuns.{Laid}
 
--- ---- lists laid over lent words
-module _ {A : Type 0} where
-  pub length-laid : (xs space : List A) → length xs ≤ length space → length (laidOver xs space) ≡ length space
-  length-laid xs space h = length-append xs (drop (length xs) space) ∙ (let e : length (drop (length xs) space) ≡ length space - length xs = length-drop (length xs) space in omega arith)
+-- the five lent runs
+pub record Lent : Type 0 where
+  pub nodes : List ℤ
+  pub elements : List ℕ
+  pub names : List ℕ
+  pub lengths : List ℕ
+  pub befores : List ℕ
 
-  put-behind : (xs ys space : List A) → put (length xs) ys (laidOver xs space) ≡ laidOver (xs ++ ys) space
-  put-behind xs ys space =
-      ap₂ (λ l r. (l ++ ys) ++ r) (take-append-seam xs (drop (length xs) space))
-      (drop-append-add xs (drop (length xs) space) (length ys) ∙ drop-drop (length ys) (length xs) space ∙ ap (λ (n : ℕ). drop n space) (sym (length-append xs ys)))
+-- runs laid over lent ones
+pub record Over (x : Runs) (before now : Lent) : Type 0 where
+  pub nodes : now .nodes ≡ laidOver (x .nodes) (before .nodes)
+  pub elements : now .elements ≡ laidOver (x .elements) (before .elements)
+  pub names : now .names ≡ laidOver (x .names) (before .names)
+  pub lengths : now .lengths ≡ laidOver (x .lengths) (before .lengths)
+  pub befores : now .befores ≡ laidOver (x .befores) (before .befores)
 
-  drop-take : (n m : ℕ) (l : List A) → drop n (take (n + m) l) ≡ take m (drop n l)
-  drop-take zero m l = let e : 0 + m ≡ m = omega arith in ap (λ (k : ℕ). take k l) e
-  drop-take (suc n) m [] = let e : suc n + m ≡ suc (n + m) = omega arith in rw e (sym (take-nil m))
-  drop-take (suc n) m (x ∷ l) = let e : suc n + m ≡ suc (n + m) = omega arith in rw e (drop-take n m l)
+-- how long each run is, in five parts; how long the runs of a joined lot are
+pub record Long (x : Runs) (a b c d e : ℕ) : Type 0 where
+  pub nodes : length (x .nodes) ≡ a
+  pub elements : length (x .elements) ≡ b
+  pub names : length (x .names) ≡ c
+  pub lengths : length (x .lengths) ≡ d
+  pub befores : length (x .befores) ≡ e
 
--- ---- an entry's numbers, from its body alone
-unsigneds-take : (n : ℕ) (bs : List ℕ) → unsigneds n (take (4 * n) bs) ≡ unsigneds n bs
-unsigneds-take zero bs = refl
-unsigneds-take (suc n) bs =
-    let e : 4 * suc n ≡ 4 + 4 * n = omega arith in
-    rw e (ap₂ (λ x l. number x ∷ l) (take-take 4 (4 + 4 * n) bs (omega arith)) (ap (unsigneds n) (drop-take 4 (4 * n) bs) ∙ unsigneds-take n (drop 4 bs)))
-
-signeds-take : (n : ℕ) (bs : List ℕ) → signeds n (take (4 * n) bs) ≡ signeds n bs
-signeds-take n bs = ap (map signed) (unsigneds-take n bs)
-
-module _ (bytes body : List ℕ) (stands : take (length body) (drop 4 bytes) ≡ body) where
-  numbers-in-body : (m : Mark) → rightLength lotFile m (length body) ≡ true → (newNodes m (drop 4 bytes) ≡ newNodes m body) × (newElements m (drop 4 bytes) ≡ newElements m body)
-  numbers-in-body LB right = (refl, refl)
-  numbers-in-body ND right =
-      let twelve : length body ≡ 12 = eqb-true (length body) 12 right in
-      (sym (signeds-take 3 (drop 4 bytes)) ∙ ap (λ (n : ℕ). signeds 3 (take n (drop 4 bytes))) (sym twelve) ∙ ap (signeds 3) stands, refl)
-  numbers-in-body HX right =
-      let all : length body ≡ 32 = eqb-true (length body) 32 right in
-      (refl, sym (unsigneds-take 8 (drop 4 bytes)) ∙ ap (λ (n : ℕ). unsigneds 8 (take n (drop 4 bytes))) (sym all) ∙ ap (unsigneds 8) stands)
-  numbers-in-body EN right = (refl, refl)
-
--- a lot with one entry more has its numbers behind, and as many words are filled
-module _ (body : List ℕ) (lot : Lot) where
-  taken-nodes : (m : Mark) → taken m body lot .nodes ≡ lot .nodes ++ newNodes m body
-  taken-nodes LB = sym (append-nil (lot .nodes))
-  taken-nodes ND = refl
-  taken-nodes HX = sym (append-nil (lot .nodes))
-  taken-nodes EN = sym (append-nil (lot .nodes))
-
-  taken-elements : (m : Mark) → taken m body lot .elements ≡ lot .elements ++ newElements m body
-  taken-elements LB = sym (append-nil (lot .elements))
-  taken-elements ND = sym (append-nil (lot .elements))
-  taken-elements HX = refl
-  taken-elements EN = sym (append-nil (lot .elements))
-
-  filled-taken : (m : Mark) (f : Filled) → (f .nodes ≡ length (lot .nodes)) × (f .elements ≡ length (lot .elements))
-      → (filledOf m f .nodes ≡ length (taken m body lot .nodes)) × (filledOf m f .elements ≡ length (taken m body lot .elements))
-  filled-taken LB f h = h
-  filled-taken ND f h = (simp length-append (omega (arith, h .0)), h .1)
-  filled-taken HX f h = (h .0, simp length-append (omega (arith, h .1)))
-  filled-taken EN f h = h
+module _ (a b : Lot) where
+  long-joined : Long (runsOf (joined a b)) (length (runsOf a .nodes) + length (runsOf b .nodes)) (length (runsOf a .elements) + length (runsOf b .elements)) (length (runsOf a .names) + length (runsOf b .names))
+      (length (runsOf a .lengths) + length (runsOf b .lengths)) (length (runsOf a .befores) + length (runsOf b .befores))
+  long-joined = record {
+    nodes = length-append (a .nodes) (b .nodes);
+    elements = length-append (a .elements) (b .elements);
+    names = ap length (names-append (a .groups) (b .groups)) ∙ length-append (namesOf (a .groups)) (namesOf (b .groups));
+    lengths = ap length (lengths-append (a .groups) (b .groups)) ∙ length-append (lengthsOf (a .groups)) (lengthsOf (b .groups));
+    befores = ap length (befores-append (a .groups) (b .groups)) ∙ length-append (beforesOf (a .groups)) (beforesOf (b .groups));
+  }
 
 -- ---- how far the handing out has come
-pub record Handed (file : List ℕ) (nodes₀ : List ℤ) (elements₀ : List ℕ) (nodes : List ℤ) (elements : List ℕ) (at : ℕ) (f : Filled) : Type 0 where
+pub record Handed (file : List ℕ) (lent now : Lent) (at : ℕ) (n : Counts) : Type 0 where
   pub stage : Stage
-  pub lot : Lot
-  pub reached : Reached lotFile file at stage lot
-  pub nodes-are : nodes ≡ laidOver (lot .nodes) nodes₀
-  pub elements-are : elements ≡ laidOver (lot .elements) elements₀
-  pub filled : (f .nodes ≡ length (lot .nodes)) × (f .elements ≡ length (lot .elements))
+  pub seen : Seen file at stage n
+  pub over : Over (runsOf (seen .lot)) lent now
+
+-- as long as the counts tell
+long-seen : {file : List ℕ} {at : ℕ} {stage : Stage} {n : Counts} (x : Seen file at stage n) → Long (runsOf (x .lot)) (3 * n .nodes) (8 * n .elements) (n .names) (n .groups) (n .groups)
+long-seen x = let t = x .tells in record {
+  nodes = t .nodes;
+  elements = t .elements;
+  names = t .names;
+  lengths = as-many-lengths (x .lot .groups) ∙ t .groups;
+  befores = as-many-befores (x .lot .groups) ∙ t .groups;
+}
 
 -- the entry that stands at a place, by its mark and the length it gives
-pub record Here (file : List ℕ) (at : ℕ) (stage : Stage) (lot : Lot) (m : Mark) (len : ℕ) : Type 0 where
-  pub body : List ℕ
+pub record Here (file : List ℕ) (at : ℕ) (stage : Stage) (n : Counts) (m : Mark) (len : ℕ) : Type 0 where
   pub unread : hasEnded stage ≡ false
-  pub found : entryOf lotFile stage (length (lot .elements) / 8) (drop at file) ≡ whole m body
-  pub long : length body ≡ len
+  pub found : entryOf lotFile stage (n .elements) (drop at file) ≡ whole m (take len (drop 4 (drop at file)))
+  pub right : rightLength lotFile m len ≡ true
+  pub fits : 4 + len ≤ length (drop at file)
 
-module _ {file : List ℕ} {at : ℕ} {stage : Stage} {lot : Lot} (n : Next lotFile file at stage lot) where
+module _ {file : List ℕ} {at : ℕ} {stage : Stage} {n : Counts} (x : Seen file at stage n) (next : Next lotFile file at stage (x .lot)) where
   pub not-unknown : {X : Type 0} → markOf (getD (drop at file) 0 0) (getD (drop at file) 1 0) ≡ none → X
-  not-unknown e = let known = whole-is (n .found) .mark in let z : _≡_ {A = ℕ} 0 1 = cc in absurd (omega arith)
+  not-unknown e = let known = whole-is (next .found) .mark in let z : _≡_ {A = ℕ} 0 1 = cc in absurd (omega arith)
 
-  pub here : (m : Mark) (len : ℕ) → markOf (getD (drop at file) 0 0) (getD (drop at file) 1 0) ≡ some m → len ≡ number (take 2 (drop 2 (drop at file))) → Here file at stage lot m len
+  pub here : (m : Mark) (len : ℕ) → markOf (getD (drop at file) 0 0) (getD (drop at file) 1 0) ≡ some m → len ≡ number (take 2 (drop 2 (drop at file))) → Here file at stage n m len
   here m len e l =
-      let w = whole-is (n .found) in
-      let same : n .mark ≡ m = cc (w .mark, e) in
-      record { body = n .body; unread = n .unread; found = n .found ∙ ap (λ (k : Mark). whole k (n .body)) same; long = sym (l ∙ w .says) }
+      let w = whole-is (next .found) in
+      let same : next .mark ≡ m = cc (w .mark, e) in
+      let long : length (next .body) ≡ len = sym (l ∙ w .says) in
+      let body : next .body ≡ take len (drop 4 (drop at file)) = sym (w .stands) ∙ ap (λ (k : ℕ). take k (drop 4 (drop at file))) long in
+      record {
+        unread = next .unread;
+        found = ap (λ (k : ℕ). entryOf lotFile stage k (drop at file)) (before file x) ∙ next .found ∙ ap₂ whole same body;
+        right = subst (λ (k : ℕ). rightLength lotFile m k ≡ true) long (subst (λ (k : Mark). rightLength lotFile k (length (next .body)) ≡ true) same (w .right));
+        fits = subst (λ (k : ℕ). 4 + k ≤ length (drop at file)) long (w .fits);
+      }
 
-module _ {file : List ℕ} {nodes₀ : List ℤ} {elements₀ : List ℕ} (out : Lot) (good : readLot lotFile file ≡ accepted out) (room : HasRoom out (length nodes₀) (length elements₀)) where
-  pub handed-start : Handed file nodes₀ elements₀ nodes₀ elements₀ 0 (record { nodes = 0; elements = 0 })
-  handed-start = record { stage = atLabel; lot = noLot; reached = reached-start lotFile file (accepted-short lotFile file out good); nodes-are = refl; elements-are = refl; filled = (refl, refl) }
+-- one run with more behind
+over-next : {A : Type 0} (xs ys zs space now : List A) {at : ℕ} {then : List A} → now ≡ laidOver xs space → length xs ≡ at → then ≡ put at ys now → xs ++ ys ≡ zs → then ≡ laidOver zs space
+over-next xs ys zs space now e l f g = f ∙ ap₂ (λ k s. put k ys s) (sym l) e ∙ put-behind xs ys space ∙ ap (λ z. laidOver z space) g
 
-  module _ {nodes : List ℤ} {elements : List ℕ} {at : ℕ} {f : Filled} (x : Handed file nodes₀ elements₀ nodes elements at f) where
-    pub handed-next : at < length file → Next lotFile file at (x .stage) (x .lot)
-    handed-next = reached-next lotFile file out good (x .reached)
+-- runs that fit the lent ones
+pub record Fit (lent : Lent) (x : Runs) : Type 0 where
+  pub nodes : length (x .nodes) ≤ length (lent .nodes)
+  pub elements : length (x .elements) ≤ length (lent .elements)
+  pub names : length (x .names) ≤ length (lent .names)
+  pub lengths : length (x .lengths) ≤ length (lent .lengths)
+  pub befores : length (x .befores) ≤ length (lent .befores)
+
+module _ (file : List ℕ) (lent : Lent) (h : Handable (readLot lotFile file) (length (lent .nodes)) (length (lent .elements)) (length (lent .names)) (length (lent .lengths)) (length (lent .befores))) where
+  short : length file ≤ lotFile .bytes
+  short = accepted-short lotFile file (lotOf (readLot lotFile file)) (h .good)
+
+  pub handed-start : Handed file lent lent 0 noCounts
+  unfolding seen-start
+  handed-start = record { stage = atLabel; seen = seen-start file short; over = record { nodes = refl; elements = refl; names = refl; lengths = refl; befores = refl } }
+
+  all-fit : Fit lent (runsOf (lotOf (readLot lotFile file)))
+  all-fit = record { nodes = h .nodes-fit; elements = h .elements-fit; names = h .names-fit; lengths = h .lengths-fit; befores = h .befores-fit }
+
+  part-fits : (lot : Lot) → Grows lot (lotOf (readLot lotFile file)) → Fit lent (runsOf lot)
+  part-fits lot g =
+      let l = long-joined lot (g .more) in
+      let f = subst (λ (x : Lot). Fit lent (runsOf x)) (g .is-joined) all-fit in
+      record { nodes = omega (arith, l .nodes, f .nodes); elements = omega (arith, l .elements, f .elements); names = omega (arith, l .names, f .names); lengths = omega (arith, l .lengths, f .lengths); befores = omega (arith, l .befores, f .befores) }
+
+  seen-fits : {at : ℕ} {stage : Stage} {n : Counts} (x : Seen file at stage n) → Fit lent (runsOf (x .lot))
+  seen-fits x = part-fits (x .lot) (reached-grows lotFile file (lotOf (readLot lotFile file)) (h .good) (x .reached))
+
+  module _ {now : Lent} {at : ℕ} {n : Counts} (x : Handed file lent now at n) where
+    pub handed-next : at < length file → Next lotFile file at (x .stage) (x .seen .lot)
+    handed-next = reached-next lotFile file (lotOf (readLot lotFile file)) (h .good) (x .seen .reached)
 
     pub four-left : at < length file → at + 4 ≤ length file
-    four-left h = omega (arith, whole-is (handed-next h .found) .fits, length-drop at file, x .reached .within)
+    four-left l = omega (arith, whole-is (handed-next l .found) .fits, length-drop at file, x .seen .reached .within)
 
-    pub same-nodes : length nodes ≡ length nodes₀
-    same-nodes = let g = reached-grows lotFile file out good (x .reached) in ap length (x .nodes-are) ∙ length-laid (x .lot .nodes) nodes₀ (omega (arith, g .0, room .0))
+    pub short-file : length file ≤ lotFile .bytes
+    short-file = short
 
-    pub same-elements : length elements ≡ length elements₀
-    same-elements = let g = reached-grows lotFile file out good (x .reached) in ap length (x .elements-are) ∙ length-laid (x .lot .elements) elements₀ (omega (arith, g .1, room .1))
+    -- the lent runs keep their lengths
+    pub same-nodes : length (now .nodes) ≡ length (lent .nodes)
+    same-nodes = ap length (x .over .nodes) ∙ length-laid (runsOf (x .seen .lot) .nodes) (lent .nodes) (seen-fits (x .seen) .nodes)
 
-    pub handed-all : length file ≤ at → (nodes ≡ laidOver (out .nodes) nodes₀) × (elements ≡ laidOver (out .elements) elements₀)
-    handed-all h =
-        let same = reached-all lotFile file out good (x .reached) h in
-        (x .nodes-are ∙ ap (λ (l : Lot). laidOver (l .nodes) nodes₀) same, x .elements-are ∙ ap (λ (l : Lot). laidOver (l .elements) elements₀) same)
+    pub same-elements : length (now .elements) ≡ length (lent .elements)
+    same-elements = ap length (x .over .elements) ∙ length-laid (runsOf (x .seen .lot) .elements) (lent .elements) (seen-fits (x .seen) .elements)
 
-    module _ {m : Mark} {len : ℕ} (n : Here file at (x .stage) (x .lot) m len) where
-      is-whole : IsWhole lotFile (x .stage) (length (x .lot .elements) / 8) (drop at file) m (n .body)
-      is-whole = whole-is (n .found)
+    pub same-names : length (now .names) ≡ length (lent .names)
+    same-names = ap length (x .over .names) ∙ length-laid (runsOf (x .seen .lot) .names) (lent .names) (seen-fits (x .seen) .names)
 
-      pub right-here : rightLength lotFile m len ≡ true
-      right-here = subst (λ (k : ℕ). rightLength lotFile m k ≡ true) (n .long) (is-whole .right)
+    pub same-lengths : length (now .lengths) ≡ length (lent .lengths)
+    same-lengths = ap length (x .over .lengths) ∙ length-laid (runsOf (x .seen .lot) .lengths) (lent .lengths) (seen-fits (x .seen) .lengths)
 
+    pub same-befores : length (now .befores) ≡ length (lent .befores)
+    same-befores = ap length (x .over .befores) ∙ length-laid (runsOf (x .seen .lot) .befores) (lent .befores) (seen-fits (x .seen) .befores)
+
+    pub handed-all : length file ≤ at → Over (runsOf (lotOf (readLot lotFile file))) lent now
+    handed-all l = subst (λ (lot : Lot). Over (runsOf lot) lent now) (reached-all lotFile file (lotOf (readLot lotFile file)) (h .good) (x .seen .reached) l) (x .over)
+
+    module _ {m : Mark} {len : ℕ} (e : Here file at (x .stage) n m len) where
       pub within-file : at + 4 + len ≤ length file
-      within-file = omega (arith, is-whole .fits, length-drop at file, n .long, x .reached .within)
+      within-file = omega (arith, e .fits, length-drop at file, x .seen .reached .within)
 
-      reached-then : Reached lotFile file (at + 4 + len) (stageAfter m) (taken m (n .body) (x .lot))
-      reached-then =
-          let to : at + (4 + length (n .body)) ≡ at + 4 + len = omega (arith, n .long) in
-          subst (λ (k : ℕ). Reached lotFile file k (stageAfter m) (taken m (n .body) (x .lot))) to (reached-whole lotFile file (x .reached) (n .unread) (n .found) (is-whole .fits))
+      pub small-here : Small len n
+      small-here = seen-small file len (x .seen) short (omega (arith, short, within-file))
 
-      -- the words that the entry's numbers go to are there
-      fitting : (k : Mark) → rightLength lotFile k len ≡ true → (filledOf k f .nodes ≤ length nodes) × (filledOf k f .elements ≤ length elements) → Fitting k (length file) (at + 4) (length nodes) (length elements) f
-      fitting LB right h = tt
-      fitting ND right h = let twelve : len ≡ 12 = eqb-true len 12 right in (omega (arith, within-file), h .0)
-      fitting HX right h = let all : len ≡ 32 = eqb-true len 32 right in (omega (arith, within-file), h .1)
-      fitting EN right h = tt
+      seen-then : Seen file (at + 4 + len) (stageAfter m) (countedOf m len n)
+      seen-then = seen-whole file len (x .seen) (e .unread) (e .found) (e .fits)
 
-      pub handed-fits : Fitting m (length file) (at + 4) (length nodes) (length elements) f
+      -- the lot with what the entry holds behind
+      abbrev next-lot : Lot
+      next-lot = held m (take len (drop (at + 4) file)) (n .elements)
+
+      lot-then : seen-then .lot ≡ joined (x .seen .lot) next-lot
+      unfolding seen-then
+      lot-then = seen-whole-lot file len (x .seen) (e .unread) (e .found) (e .fits) ∙ ap₂ (λ (b : List ℕ) (k : ℕ). joined (x .seen .lot) (held m (take len b) k)) (drop-drop 4 at file) (sym (before file (x .seen)))
+
+      pub handed-fits : Fitting m file (at + 4) len n (length (now .nodes)) (length (now .elements)) (length (now .names)) (length (now .lengths)) (length (now .befores))
       handed-fits =
-          let g = reached-grows lotFile file out good reached-then in
-          let filled = filled-taken (n .body) (x .lot) m f (x .filled) in
-          fitting m right-here (omega (arith, g .0, room .0, same-nodes, filled .0), omega (arith, g .1, room .1, same-elements, filled .1))
-
-      pub handed-then : {nodes′ : List ℤ} {elements′ : List ℕ} {f′ : Filled} → nodes′ ≡ put (f .nodes) (newNodes m (drop (at + 4) file)) nodes → elements′ ≡ put (f .elements) (newElements m (drop (at + 4) file)) elements → f′ ≡ filledOf m f
-          → Handed file nodes₀ elements₀ nodes′ elements′ (at + 4 + len) f′
-      handed-then {nodes′} {elements′} {f′} p q r =
-          let lot = x .lot in
-          let body = n .body in
-          let numbers = numbers-in-body (drop at file) body (is-whole .stands) m (is-whole .right) in
-          let past : drop 4 (drop at file) ≡ drop (at + 4) file = drop-drop 4 at file in
-          let filled = filled-taken body lot m f (x .filled) in
+          let f = subst (λ (lot : Lot). Fit lent (runsOf lot)) lot-then (seen-fits seen-then) in
+          let l = long-joined (x .seen .lot) next-lot in
+          let k = long-seen (x .seen) in
           record {
-            stage = stageAfter m;
-            lot = taken m body lot;
-            reached = reached-then;
-            nodes-are = p ∙ rw (x .nodes-are, x .filled .0, ← past, numbers .0) (put-behind (lot .nodes) (newNodes m body) nodes₀ ∙ ap (λ (l : List ℤ). laidOver l nodes₀) (sym (taken-nodes body lot m)));
-            elements-are = q ∙ rw (x .elements-are, x .filled .1, ← past, numbers .1) (put-behind (lot .elements) (newElements m body) elements₀ ∙ ap (λ (l : List ℕ). laidOver l elements₀) (sym (taken-elements body lot m)));
-            filled = (ap (λ (g : Filled). g .nodes) r ∙ filled .0, ap (λ (g : Filled). g .elements) r ∙ filled .1);
+            right = e .right;
+            within = within-file;
+            small = small-here;
+            nodes-fit = omega (arith, f .nodes, l .nodes, k .nodes, same-nodes);
+            elements-fit = omega (arith, f .elements, l .elements, k .elements, same-elements);
+            names-fit = omega (arith, f .names, l .names, k .names, same-names);
+            lengths-fit = omega (arith, f .lengths, l .lengths, k .lengths, same-lengths);
+            befores-fit = omega (arith, f .befores, l .befores, k .befores, same-befores);
           }
+
+      pub handed-then : {then : Lent} {n′ : Counts}
+          → Laid m file (at + 4) len n (now .nodes) (now .elements) (now .names) (now .lengths) (now .befores) (then .nodes) (then .elements) (then .names) (then .lengths) (then .befores)
+          → n′ ≡ countedOf m len n → Handed file lent then (at + 4 + len) n′
+      handed-then {then} {n′} p q =
+          let a = x .seen .lot in
+          let k = long-seen (x .seen) in
+          let o = x .over in
+          let over : Over (runsOf (joined a next-lot)) lent then = record {
+            nodes = over-next (a .nodes) (next-lot .nodes) _ (lent .nodes) (now .nodes) (o .nodes) (k .nodes) (p .0) refl;
+            elements = over-next (a .elements) (next-lot .elements) _ (lent .elements) (now .elements) (o .elements) (k .elements) (p .1 .0) refl;
+            names = over-next (namesOf (a .groups)) (namesOf (next-lot .groups)) _ (lent .names) (now .names) (o .names) (k .names) (p .1 .1 .0) (sym (names-append (a .groups) (next-lot .groups)));
+            lengths = over-next (lengthsOf (a .groups)) (lengthsOf (next-lot .groups)) _ (lent .lengths) (now .lengths) (o .lengths) (k .lengths) (p .1 .1 .1 .0) (sym (lengths-append (a .groups) (next-lot .groups)));
+            befores = over-next (beforesOf (a .groups)) (beforesOf (next-lot .groups)) _ (lent .befores) (now .befores) (o .befores) (k .befores) (p .1 .1 .1 .1) (sym (befores-append (a .groups) (next-lot .groups)));
+          } in
+          subst (Handed file lent then (at + 4 + len)) (sym q) (record { stage = stageAfter m; seen = seen-then; over = subst (λ (lot : Lot). Over (runsOf lot) lent then) (sym lot-then) over })

@@ -1,4 +1,5 @@
 pub mod Laws
 pub mod Seen
-pub mod Handed
 pub mod Answers
+pub mod EntryRuns
+pub mod Handed

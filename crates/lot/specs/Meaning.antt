@@ -1,77 +1,86 @@
 -- What the code's answers stand for in the definitions of the lot file.
 use mathlib.Core.Path.{_≡_}
-use mathlib.Core.List.{List, [], _++_}
+use mathlib.Core.Bool.{Bool, true, _&&_}
+use mathlib.Core.List.{List}
 use Prim.Native.Nat.{ℕ, _+_, _*_, _≤_}
+use lib.Dec.{leb}
 use lib.ListN.{length, take, drop}
-use lib.IntN.{ℤ}
-use Rattle.lotfile.specs.Numbers.{unsigneds, signeds}
-use Rattle.lotfile.specs.Format.{lotFile, Mark as FileMark, LB as markLB, ND as markND, HX as markHX, EN as markEN, Lot}
-use Rattle.lotfile.specs.Reading.{Refusal as FileRefusal, Reading, accepted, refused, handedOut}
+use Rattle.lotfile.specs.Format.{lotFile, Mark as FileMark, LB as markLB, ND as markND, HX as markHX, GR as markGR, EN as markEN, rightLength, Lot}
+use Rattle.lotfile.specs.Runs.{Runs, namesOf, runsOf}
+use Rattle.lotfile.specs.Reading.{Refusal as FileRefusal, held, Reading, accepted, refused, lotOf, handedOut, Room as FileRoom}
 use Rattle.entry.specs.Meaning.{refusalHeld}
 use Rattle.lot.specs.declared.Counts.{Counts}
-use Rattle.lot.specs.declared.Filled.{Filled}
+use Rattle.lot.specs.declared.Room.{Room}
 use Rattle.lot.specs.declared.Scan.{Scan}
 use Rattle.lot.specs.declared.Scan.the-variants.{Counted, Refused}
 
+abbrev pub noCounts : Counts
+noCounts = record { label = 0; nodes = 0; elements = 0; groups = 0; names = 0 }
+
 -- the counts with one entry more, whose body has so many bytes
 abbrev pub countedOf : FileMark → ℕ → Counts → Counts
-countedOf markLB len n = record { label = len; nodes = n .nodes; elements = n .elements }
-countedOf markND len n = record { label = n .label; nodes = n .nodes + 1; elements = n .elements }
-countedOf markHX len n = record { label = n .label; nodes = n .nodes; elements = n .elements + 1 }
+countedOf markLB len n = record { label = n .label + len; nodes = n .nodes; elements = n .elements; groups = n .groups; names = n .names }
+countedOf markND len n = record { label = n .label; nodes = n .nodes + 1; elements = n .elements; groups = n .groups; names = n .names }
+countedOf markHX len n = record { label = n .label; nodes = n .nodes; elements = n .elements + 1; groups = n .groups; names = n .names }
+countedOf markGR len n = record { label = n .label; nodes = n .nodes; elements = n .elements; groups = n .groups + 1; names = n .names + len }
 countedOf markEN len n = n
 
--- What the scan of a file finds: how many bytes its label has, and how many words its nodes and its elements; or why the file is refused.
+-- no more than a file has bytes
+pub record Small (len : ℕ) (n : Counts) : Type 0 where
+  pub len-small : len ≤ lotFile .bytes
+  pub label : n .label ≤ lotFile .bytes
+  pub nodes : n .nodes ≤ lotFile .bytes
+  pub elements : n .elements ≤ lotFile .bytes
+  pub groups : n .groups ≤ lotFile .bytes
+  pub names : n .names ≤ lotFile .bytes
+
+-- What the scan of a file finds: how many bytes its label has, how many words its nodes, its elements and its groups have, how many bytes the names; or why the file is refused.
 pub data Found : Type 0 where
-  holds : (label nodes elements : ℕ) → Found
+  holds : (label nodes elements groups names : ℕ) → Found
   fails : FileRefusal → Found
 
 abbrev pub scanHeld : Scan → Found
-scanHeld (Counted n) = holds (n .label) (3 * n .nodes) (8 * n .elements)
+scanHeld (Counted n) = holds (n .label) (3 * n .nodes) (8 * n .elements) (n .groups) (n .names)
 scanHeld (Refused r) = fails (refusalHeld r)
 
 abbrev pub scanOf : Reading → Found
-scanOf (accepted lot) = holds (length (lot .label)) (length (lot .nodes)) (length (lot .elements))
+scanOf (accepted lot) = holds (length (lot .label)) (length (lot .nodes)) (length (lot .elements)) (length (lot .groups)) (length (namesOf (lot .groups)))
 scanOf (refused r) = fails r
 
--- no more than a file has bytes
 abbrev pub Few : Scan → Type 0
-Few (Counted n) = (n .label ≤ lotFile .bytes) × (n .nodes ≤ lotFile .bytes) × (n .elements ≤ lotFile .bytes)
+Few (Counted n) = Small 0 n
 Few (Refused r) = Unit
 
--- ---- handing out: the numbers of one entry, whose body stands first in these bytes
-abbrev pub newNodes : FileMark → List ℕ → List ℤ
-newNodes markLB bytes = []
-newNodes markND bytes = signeds 3 bytes
-newNodes markHX bytes = []
-newNodes markEN bytes = []
+-- ---- lent space
+abbrev pub roomHeld : Room → FileRoom
+roomHeld r = record { nodes = r .nodes; elements = r .elements; names = r .names; lengths = r .lengths; befores = r .befores }
 
-abbrev pub newElements : FileMark → List ℕ → List ℕ
-newElements markLB bytes = []
-newElements markND bytes = []
-newElements markHX bytes = unsigneds 8 bytes
-newElements markEN bytes = []
+abbrev pub hasRoom : Counts → Room → Bool
+hasRoom n room = leb (3 * n .nodes) (room .nodes) && (leb (8 * n .elements) (room .elements) && (leb (n .names) (room .names) && (leb (n .groups) (room .lengths) && leb (n .groups) (room .befores))))
 
--- a run laid over lent words, from the n-th on
-abbrev pub put : {A : Type 0} → ℕ → List A → List A → List A
-put n xs space = take n space ++ xs ++ drop (n + length xs) space
+-- ---- handing out: the runs of one entry, whose body of so many bytes starts at a place of the file, where so much was read before
+abbrev pub newRuns : FileMark → List ℕ → ℕ → ℕ → Counts → Runs
+newRuns m file at len n = runsOf (held m (take len (drop at file)) (n .elements))
 
--- the words that are filled then
-abbrev pub filledOf : FileMark → Filled → Filled
-filledOf markLB f = f
-filledOf markND f = record { nodes = f .nodes + 3; elements = f .elements }
-filledOf markHX f = record { nodes = f .nodes; elements = f .elements + 8 }
-filledOf markEN f = f
-
--- the entry's bytes and the words for its numbers are there; the lengths of the file and of the two lent runs
-abbrev pub Fitting : FileMark → ℕ → ℕ → ℕ → ℕ → Filled → Type 0
-Fitting markLB file at nodes elements f = Unit
-Fitting markND file at nodes elements f = (at + 12 ≤ file) × (f .nodes + 3 ≤ nodes)
-Fitting markHX file at nodes elements f = (at + 32 ≤ file) × (f .elements + 8 ≤ elements)
-Fitting markEN file at nodes elements f = Unit
+-- the entry's bytes and the words for what it holds are there; the lengths of the lent runs
+pub record Fitting (m : FileMark) (file : List ℕ) (at len : ℕ) (n : Counts) (nodes elements names lengths befores : ℕ) : Type 0 where
+  pub right : rightLength lotFile m len ≡ true
+  pub within : at + len ≤ length file
+  pub small : Small len n
+  pub nodes-fit : 3 * n .nodes + length (newRuns m file at len n .nodes) ≤ nodes
+  pub elements-fit : 8 * n .elements + length (newRuns m file at len n .elements) ≤ elements
+  pub names-fit : n .names + length (newRuns m file at len n .names) ≤ names
+  pub lengths-fit : n .groups + length (newRuns m file at len n .lengths) ≤ lengths
+  pub befores-fit : n .groups + length (newRuns m file at len n .befores) ≤ befores
 
 -- a file without fault, and lent words enough for what it holds
 abbrev pub IsAccepted : Reading → Type 0
-IsAccepted r = r ≡ accepted (handedOut r)
+IsAccepted r = r ≡ accepted (lotOf r)
 
-abbrev pub HasRoom : Lot → ℕ → ℕ → Type 0
-HasRoom lot nodes elements = (length (lot .nodes) ≤ nodes) × (length (lot .elements) ≤ elements)
+pub record Handable (r : Reading) (nodes elements names lengths befores : ℕ) : Type 0 where
+  pub good : IsAccepted r
+  pub nodes-fit : length (handedOut r .nodes) ≤ nodes
+  pub elements-fit : length (handedOut r .elements) ≤ elements
+  pub names-fit : length (handedOut r .names) ≤ names
+  pub lengths-fit : length (handedOut r .lengths) ≤ lengths
+  pub befores-fit : length (handedOut r .befores) ≤ befores

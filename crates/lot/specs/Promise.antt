@@ -1,43 +1,75 @@
 -- What `lot::read` hands out is what the file holds: a file whose number is 0 is the writing-out of the label that is handed back and of the words that are filled.
-use mathlib.Core.Path.{_≡_, sym, _∙_, ap, ap₂}
+use mathlib.Core.Path.{_≡_, refl, sym, _∙_, ap, ap₂}
 use mathlib.Core.List.{List, _++_}
 use Prim.Native.Nat.{ℕ, _*_, _/_, _%_}
 use native.Mathlib.Omega.{arith}
-use lib.ListN.{getD, length, take, drop}
+use lib.ListN.{getD, length, take, drop, length-map}
 use lib.Seq.{take-append-seam}
-use lib.IntN.{ℤ}
 use Rattle.foundation.specs.Lists.{All}
+use Rattle.foundation.specs.Laid.{laidOver}
 use Rattle.lotfile.specs.Numbers.{Byte}
-use Rattle.lotfile.specs.Format.{lotFile, Lot, written}
-use Rattle.lotfile.specs.Reading.{accepted, readInto, handedOut, readingNumbers, laidOver}
+use Rattle.lotfile.specs.Format.{lotFile, Lot, Group, written}
+use Rattle.lotfile.specs.Runs.{Runs, runsOf, lotFrom}
+use Rattle.lotfile.specs.Reading.{Reading, accepted, readLot, readInto, lotOf, handedOut, readingNumbers}
+use Rattle.lotfile.specs.RunLaws.{lot-back, same-runs}
 use Rattle.lotfile.specs.Numbered.{zero-accepted}
 use Rattle.lotfile.specs.Accepted.{reading-accepted, accepted-lawful, accepted-written}
 
--- what `read` ensures of the label, the lent words and the answer; with subscript 0 the lent words before
-pub record Read (file : List ℕ) (nodes₀ : List ℤ) (elements₀ : List ℕ) (label : List ℕ) (nodes : List ℤ) (elements answer : List ℕ) : Type 0 where
-  pub label-is : label ≡ handedOut (readInto lotFile file nodes₀ elements₀) .label
-  pub nodes-are : nodes ≡ laidOver (handedOut (readInto lotFile file nodes₀ elements₀) .nodes) nodes₀
-  pub elements-are : elements ≡ laidOver (handedOut (readInto lotFile file nodes₀ elements₀) .elements) elements₀
-  pub answer-is : answer ≡ readingNumbers (readInto lotFile file nodes₀ elements₀)
+-- the reading into lent runs; a label is not lent
+abbrev pub readOver : List ℕ → Runs → Reading
+readOver file lent = readInto lotFile file (lent .nodes) (lent .elements) (lent .names) (lent .lengths) (lent .befores)
+
+-- what `read` ensures of the label, the lent runs and the answer
+pub record Read (file : List ℕ) (lent now : Runs) (answer : List ℕ) : Type 0 where
+  pub label-is : now .label ≡ handedOut (readOver file lent) .label
+  pub nodes-are : now .nodes ≡ laidOver (handedOut (readOver file lent) .nodes) (lent .nodes)
+  pub elements-are : now .elements ≡ laidOver (handedOut (readOver file lent) .elements) (lent .elements)
+  pub names-are : now .names ≡ laidOver (handedOut (readOver file lent) .names) (lent .names)
+  pub lengths-are : now .lengths ≡ laidOver (handedOut (readOver file lent) .lengths) (lent .lengths)
+  pub befores-are : now .befores ≡ laidOver (handedOut (readOver file lent) .befores) (lent .befores)
+  pub answer-is : answer ≡ readingNumbers (readOver file lent)
 
 -- the words that the answer counts
-abbrev pub asRead : List ℕ → List ℤ → List ℕ → List ℕ → Lot
-asRead label nodes elements answer = record { label = label; nodes = take (3 * getD answer 1 0) nodes; elements = take (8 * getD answer 2 0) elements }
+abbrev pub asRead : Runs → List ℕ → Runs
+asRead now answer = record {
+  label = now .label;
+  nodes = take (3 * getD answer 1 0) (now .nodes);
+  elements = take (8 * getD answer 2 0) (now .elements);
+  names = take (getD answer 4 0) (now .names);
+  lengths = take (getD answer 3 0) (now .lengths);
+  befores = take (getD answer 3 0) (now .befores);
+}
 
-take-laid : {A : Type 0} (n : ℕ) (xs space : List A) → n ≡ length xs → take n (laidOver xs space) ≡ xs
-take-laid n xs space e = ap (λ (k : ℕ). take k (laidOver xs space)) e ∙ take-append-seam xs (drop (length xs) space)
+-- the start of a list that a run was laid over
+part-is : {A : Type 0} (n : ℕ) (xs space now : List A) → now ≡ laidOver xs space → n ≡ length xs → take n now ≡ xs
+part-is n xs space now e l = ap₂ (λ (k : ℕ) s. take k s) l e ∙ take-append-seam xs (drop (length xs) space)
 
-module _ {file : List ℕ} {nodes₀ : List ℤ} {elements₀ label : List ℕ} {nodes : List ℤ} {elements answer : List ℕ} (h : All Byte file) (x : Read file nodes₀ elements₀ label nodes elements answer) where
-  pub read-as-written : getD answer 0 0 ≡ 0 → file ≡ written (asRead label nodes elements answer)
+module _ (file : List ℕ) (lent now : Runs) (answer : List ℕ) (h : All Byte file) (x : Read file lent now answer) (e : getD answer 0 0 ≡ 0) where
+  abbrev pub out : Lot
+  out = lotOf (readOver file lent)
+
+  good : readLot lotFile file ≡ accepted out
   unfolding readingNumbers
-  read-as-written e =
-      let r = readInto lotFile file nodes₀ elements₀ in
-      let lot = handedOut r in
-      let good : r ≡ accepted lot = zero-accepted r (sym (ap (λ (l : List ℕ). getD l 0 0) (x .answer-is)) ∙ e) in
-      let whole = reading-accepted lotFile file (length nodes₀) (length elements₀) lot good .0 in
-      let lawful = accepted-lawful lotFile file lot h whole in
-      let n : 3 * getD answer 1 0 ≡ length (lot .nodes) = ap (λ (l : List ℕ). 3 * getD l 1 0) (x .answer-is) ∙ omega (arith, lawful .nodes .threes) in
-      let m : 8 * getD answer 2 0 ≡ length (lot .elements) = ap (λ (l : List ℕ). 8 * getD l 2 0) (x .answer-is) ∙ omega (arith, lawful .elements .eights) in
-      accepted-written lotFile file lot h whole
-      ∙ ap₂ (λ (l : List ℕ) (z : List ℤ). written (record { label = l; nodes = z; elements = lot .elements })) (sym (x .label-is)) (sym (ap (take (3 * getD answer 1 0)) (x .nodes-are) ∙ take-laid _ (lot .nodes) nodes₀ n))
-      ∙ ap (λ (l : List ℕ). written (record { label = label; nodes = take (3 * getD answer 1 0) nodes; elements = l })) (sym (ap (take (8 * getD answer 2 0)) (x .elements-are) ∙ take-laid _ (lot .elements) elements₀ m))
+  good = reading-accepted lotFile file _ out (zero-accepted (readOver file lent) (sym (ap (λ (l : List ℕ). getD l 0 0) (x .answer-is)) ∙ e)) .0
+
+  -- the answer's words, by number
+  word : (k : ℕ) → getD answer k 0 ≡ getD (readingNumbers (readOver file lent)) k 0
+  word k = ap (λ (l : List ℕ). getD l k 0) (x .answer-is)
+
+  pub read-runs : asRead now answer ≡ runsOf out
+  unfolding readingNumbers
+  read-runs =
+      let lawful = accepted-lawful lotFile file out h good in
+      let gs = out .groups in
+      let nodes : 3 * getD answer 1 0 ≡ length (out .nodes) = omega (arith, word 1, lawful .nodes .threes) in
+      let elements : 8 * getD answer 2 0 ≡ length (out .elements) = omega (arith, word 2, lawful .elements .eights) in
+      let befores : getD answer 3 0 ≡ length (runsOf out .befores) = word 3 ∙ length-map gs (λ (g : Group). length (g .name)) ∙ sym (length-map gs (λ (g : Group). g .before)) in
+      same-runs (x .label-is)
+      (part-is _ (out .nodes) (lent .nodes) (now .nodes) (x .nodes-are) nodes)
+      (part-is _ (out .elements) (lent .elements) (now .elements) (x .elements-are) elements)
+      (part-is _ (runsOf out .names) (lent .names) (now .names) (x .names-are) (word 4))
+      (part-is _ (runsOf out .lengths) (lent .lengths) (now .lengths) (x .lengths-are) (word 3))
+      (part-is _ (runsOf out .befores) (lent .befores) (now .befores) (x .befores-are) befores)
+
+  pub read-as-written : file ≡ written (lotFrom (asRead now answer))
+  read-as-written = accepted-written lotFile file out h good ∙ ap written (sym (lot-back out) ∙ ap lotFrom (sym read-runs))

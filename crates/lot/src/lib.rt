@@ -1,30 +1,30 @@
 // Reading a lot file: the service `read`. Nothing has to be checked first: it takes any bytes and any lent space, and states its whole
 // answer, every word of lent space included, as an equation with `Reading` of the crate `lotfile` at the limits `lotFile`.
-// A file is gone through twice: first for a fault, then, where it has none and the lent space is large enough, to hand out its nodes and
-// elements.
+// A file is gone through twice: first for a fault, then, where it has none and the lent space is large enough, to hand out what it holds.
 ghost use mathlib.Core.Path.{_≡_};
-ghost use Prim.Native.Nat.{_+_, _≤_};
-ghost use lib.ListN.{length, drop};
+ghost use mathlib.Core.List.{_∷_, []};
+ghost use Prim.Native.Nat.{_+_, _*_, _≤_, _<_};
+ghost use lib.ListN.{length, take, drop};
 ghost use denote.Ref.{ptr};
+ghost use Rattle.foundation.specs.Laid.{put, laidOver};
 ghost use Rattle.lotfile.specs.Numbers.{unsigneds, signeds};
 ghost use Rattle.lotfile.specs.Format.{lotFile};
-ghost use Rattle.lotfile.specs.Reading.{readLot, reading, readInto, handedOut, labelPlace, readingNumbers, laidOver, refusalNumber};
+ghost use Rattle.lotfile.specs.Reading.{readLot, reading, readInto, lotOf, handedOut, labelPlace, readingNumbers, refusalNumber};
 ghost use Rattle.entry.specs.Meaning.{refusalHeld, markHeld};
-ghost use Rattle.lot.specs.Meaning.{countedOf, scanHeld, scanOf, Few, newNodes, newElements, filledOf, put, Fitting, IsAccepted, HasRoom};
+ghost use Rattle.lot.specs.Meaning.{noCounts, countedOf, Small, scanHeld, scanOf, Few, roomHeld, hasRoom, newRuns, Fitting, Handable};
 use entry::Entry;
 use entry::Mark;
 use entry::Marked;
 use entry::Refusal;
 use entry::Stage;
 
-// The longest file, as the definitions' `lotFile` has it; its other limits are the crate `entry`'s.
-const MAX_BYTES: usize = 65536;
-
-// The length of a label and the numbers of nodes and elements.
+// The bytes of the label, the numbers of nodes, elements and groups, and the bytes of the groups' names.
 struct Counts {
     pub label: usize,
     pub nodes: usize,
     pub elements: usize,
+    pub groups: usize,
+    pub names: usize,
 }
 
 // What the scan of a file finds.
@@ -33,10 +33,13 @@ enum Scan {
     Refused(Refusal),
 }
 
-// How many lent words of each kind are filled.
-struct Filled {
+// The lengths of the lent runs.
+struct Room {
     pub nodes: usize,
     pub elements: usize,
+    pub names: usize,
+    pub lengths: usize,
+    pub befores: usize,
 }
 
 // The number of a refusal.
@@ -55,28 +58,44 @@ fn refusal_number(r: Refusal) -> u32
     }
 }
 
-// The counts with one entry more.
+// The counts before any entry.
+fn nothing() -> Counts
+    ensures { λ r. ⌜ r ≡ noCounts ⌝ }
+{
+    Counts {
+        label: 0,
+        nodes: 0,
+        elements: 0,
+        groups: 0,
+        names: 0,
+    }
+}
+
+// The counts with one entry more, whose body has so many bytes. Only one label is read.
 fn counted(mark: Mark, len: usize, n: Counts) -> Counts
-    requires { ⌜ (n .nodes ≤ lotFile .bytes) × (n .elements ≤ lotFile .bytes) ⌝ }
+    requires { ⌜ Small len n ⌝ }
     ensures { λ r. ⌜ r ≡ countedOf (markHeld mark) len n ⌝ }
 {
+    let mut m = n;
     match mark {
-        Mark::LB => Counts {
-            label: len,
-            nodes: n.nodes,
-            elements: n.elements,
-        },
-        Mark::ND => Counts {
-            label: n.label,
-            nodes: n.nodes + 1,
-            elements: n.elements,
-        },
-        Mark::HX => Counts {
-            label: n.label,
-            nodes: n.nodes,
-            elements: n.elements + 1,
-        },
-        Mark::EN => n,
+        Mark::LB => {
+            m.label = n.label + len;
+            m
+        }
+        Mark::ND => {
+            m.nodes = n.nodes + 1;
+            m
+        }
+        Mark::HX => {
+            m.elements = n.elements + 1;
+            m
+        }
+        Mark::GR => {
+            m.groups = n.groups + 1;
+            m.names = n.names + len;
+            m
+        }
+        Mark::EN => m,
     }
 }
 
@@ -85,16 +104,12 @@ fn scan_file(file: &[u8]) -> Scan
     ensures { λ r. ⌜ scanHeld r ≡ scanOf (readLot lotFile (now (file .entry))) ⌝ }
     ensures { λ r. ⌜ Few r ⌝ }
 {
-    if MAX_BYTES < file.len() {
+    if entry::MAX_BYTES < file.len() {
         return Scan::Refused(Refusal::TooLong);
     }
     let mut at = 0;
     let mut stage = Stage::AtLabel;
-    let mut counts = Counts {
-        label: 0,
-        nodes: 0,
-        elements: 0,
-    };
+    let mut counts = nothing();
     while !entry::has_ended(stage) {
         let elements = counts.elements;
         let entry = entry::entry_at(file, at, stage, elements);
@@ -137,114 +152,176 @@ fn put_element(file: &[u8], at: usize, elements: &mut [u32], n: usize)
     }
 }
 
-// Writes the numbers of an entry, whose body starts at a place of the file, behind the words that are filled, and returns how many are
-// filled then.
-fn put_entry(
-    file: &[u8],
-    at: usize,
-    mark: Mark,
-    nodes: &mut [i32],
-    elements: &mut [u32],
-    filled: Filled,
-) -> Filled
-    requires { ⌜ Fitting (markHeld mark) (length (now file)) at (length (now nodes)) (length (now elements)) filled ⌝ }
-    ensures { λ r. ⌜ r ≡ filledOf (markHeld mark) filled ⌝ }
-    ensures { λ r. ⌜ now (nodes .exit) ≡ put (filled .nodes) (newNodes (markHeld mark) (drop at (now (file .entry)))) (now (nodes .entry)) ⌝ }
-    ensures { λ r. ⌜ now (elements .exit) ≡ put (filled .elements) (newElements (markHeld mark) (drop at (now (file .entry)))) (now (elements .entry)) ⌝ }
+// Writes so many bytes of the file, from a place on, to the lent bytes from n on.
+fn put_name(file: &[u8], at: usize, len: usize, names: &mut [u8], n: usize)
+    requires { ⌜ (at + len ≤ length (now file)) × (n + len ≤ length (now names)) ⌝ }
+    ensures { λ _. ⌜ now (names .exit) ≡ put n (take len (drop at (now (file .entry)))) (now (names .entry)) ⌝ }
 {
-    match mark {
-        Mark::LB => filled,
-        Mark::ND => {
-            let n = filled.nodes;
-            put_node(file, at, nodes, n);
-            Filled {
-                nodes: n + 3,
-                elements: filled.elements,
-            }
-        }
-        Mark::HX => {
-            let n = filled.elements;
-            put_element(file, at, elements, n);
-            Filled {
-                nodes: filled.nodes,
-                elements: n + 8,
-            }
-        }
-        Mark::EN => filled,
+    for k in 0..len {
+        let b = file[at + k];
+        names[n + k] = b;
     }
 }
 
-// Writes the nodes and elements of a file without fault to lent words that have room for them.
-fn hand_out(file: &[u8], nodes: &mut [i32], elements: &mut [u32])
-    requires { ⌜ IsAccepted (readLot lotFile (now file)) ⌝ }
-    requires { ⌜ HasRoom (handedOut (readLot lotFile (now file))) (length (now nodes)) (length (now elements)) ⌝ }
+// Writes a number to the lent word n.
+fn put_number(words: &mut [u32], n: usize, x: usize)
+    requires { ⌜ (n < length (now words)) × (x < 4294967296) ⌝ }
+    ensures { λ _. ⌜ now (words .exit) ≡ put n (x ∷ []) (now (words .entry)) ⌝ }
+{
+    let y = x as u32;
+    words[n] = y;
+}
+
+// Writes what an entry holds, whose body of so many bytes starts at a place of the file, behind what the entries before it held: n counts
+// that.
+fn put_entry(
+    file: &[u8],
+    at: usize,
+    len: usize,
+    mark: Mark,
+    nodes: &mut [i32],
+    elements: &mut [u32],
+    names: &mut [u8],
+    lengths: &mut [u32],
+    befores: &mut [u32],
+    n: Counts,
+)
+    requires { ⌜ Fitting (markHeld mark) (now file) at len n (length (now nodes)) (length (now elements)) (length (now names)) (length (now lengths)) (length (now befores)) ⌝ }
+    ensures { λ _. ⌜ now (nodes .exit) ≡ put (3 * n .nodes) (newRuns (markHeld mark) (now (file .entry)) at len n .nodes) (now (nodes .entry)) ⌝ }
+    ensures { λ _. ⌜ now (elements .exit) ≡ put (8 * n .elements) (newRuns (markHeld mark) (now (file .entry)) at len n .elements) (now (elements .entry)) ⌝ }
+    ensures { λ _. ⌜ now (names .exit) ≡ put (n .names) (newRuns (markHeld mark) (now (file .entry)) at len n .names) (now (names .entry)) ⌝ }
+    ensures { λ _. ⌜ now (lengths .exit) ≡ put (n .groups) (newRuns (markHeld mark) (now (file .entry)) at len n .lengths) (now (lengths .entry)) ⌝ }
+    ensures { λ _. ⌜ now (befores .exit) ≡ put (n .groups) (newRuns (markHeld mark) (now (file .entry)) at len n .befores) (now (befores .entry)) ⌝ }
+{
+    match mark {
+        Mark::LB => {}
+        Mark::ND => {
+            put_node(file, at, nodes, 3 * n.nodes);
+        }
+        Mark::HX => {
+            put_element(file, at, elements, 8 * n.elements);
+        }
+        Mark::GR => {
+            put_name(file, at, len, names, n.names);
+            put_number(lengths, n.groups, len);
+            put_number(befores, n.groups, n.elements);
+        }
+        Mark::EN => {}
+    }
+}
+
+// Writes what a file without fault holds to lent words that have room for it.
+fn hand_out(
+    file: &[u8],
+    nodes: &mut [i32],
+    elements: &mut [u32],
+    names: &mut [u8],
+    lengths: &mut [u32],
+    befores: &mut [u32],
+)
+    requires { ⌜ Handable (readLot lotFile (now file)) (length (now nodes)) (length (now elements)) (length (now names)) (length (now lengths)) (length (now befores)) ⌝ }
     ensures { λ _. ⌜ now (nodes .exit) ≡ laidOver (handedOut (readLot lotFile (now (file .entry))) .nodes) (now (nodes .entry)) ⌝ }
     ensures { λ _. ⌜ now (elements .exit) ≡ laidOver (handedOut (readLot lotFile (now (file .entry))) .elements) (now (elements .entry)) ⌝ }
+    ensures { λ _. ⌜ now (names .exit) ≡ laidOver (handedOut (readLot lotFile (now (file .entry))) .names) (now (names .entry)) ⌝ }
+    ensures { λ _. ⌜ now (lengths .exit) ≡ laidOver (handedOut (readLot lotFile (now (file .entry))) .lengths) (now (lengths .entry)) ⌝ }
+    ensures { λ _. ⌜ now (befores .exit) ≡ laidOver (handedOut (readLot lotFile (now (file .entry))) .befores) (now (befores .entry)) ⌝ }
 {
     let mut at = 0;
-    let mut filled = Filled {
-        nodes: 0,
-        elements: 0,
-    };
+    let mut n = nothing();
     while at < file.len() {
         let marked = entry::mark_at(file, at);
         let Marked::Known(mark) = marked else {
             return;
         };
         let len = entry::body_length(mark, entry::length_at(file, at));
-        filled = put_entry(file, at + 4, mark, nodes, elements, filled);
+        put_entry(
+            file,
+            at + 4,
+            len,
+            mark,
+            nodes,
+            elements,
+            names,
+            lengths,
+            befores,
+            n,
+        );
+        n = counted(mark, len, n);
         at = at + 4 + len;
     }
 }
 
-// What the scan of a file finds, and 27 where its nodes or elements don't fit so many lent words.
-fn scan_with_room(file: &[u8], nodes: usize, elements: usize) -> Scan
-    ensures { λ r. ⌜ scanHeld r ≡ scanOf (reading lotFile (now (file .entry)) nodes elements) ⌝ }
+// Whether there is room for so much.
+fn has_room(n: Counts, room: Room) -> bool
+    requires { ⌜ Small 0 n ⌝ }
+    ensures { λ r. ⌜ r ≡ hasRoom n room ⌝ }
+{
+    (3 * n.nodes <= room.nodes)
+        & ((8 * n.elements <= room.elements)
+            & ((n.names <= room.names) & ((n.groups <= room.lengths) & (n.groups <= room.befores))))
+}
+
+// What the scan of a file finds, and 27 where what it holds does not fit the lent runs.
+fn scan_with_room(file: &[u8], room: Room) -> Scan
+    ensures { λ r. ⌜ scanHeld r ≡ scanOf (reading lotFile (now (file .entry)) (roomHeld room)) ⌝ }
     ensures { λ r. ⌜ Few r ⌝ }
 {
     let found = scan_file(file);
     match found {
         Scan::Refused(r) => Scan::Refused(r),
         Scan::Counted(n) => {
-            if nodes < 3 * n.nodes {
-                return Scan::Refused(Refusal::NoRoom);
+            if has_room(n, room) {
+                return Scan::Counted(n);
             }
-            if elements < 8 * n.elements {
-                return Scan::Refused(Refusal::NoRoom);
-            }
-            Scan::Counted(n)
+            Scan::Refused(Refusal::NoRoom)
         }
     }
 }
 
-// Reads a lot file. The answer's three words are the number 0 with the number of nodes and of elements, or the number that refuses the
-// lot with 0 and 0. An accepted lot's coordinates, three a node, and indices, eight an element, are written to the lent words, and its
-// label is handed back as the part of the file that it is: the last clause says where that part starts. A refused lot leaves the lent
-// words as they are, and the part is empty.
+// Reads a lot file. The answer's five words are the number 0 with the numbers of nodes, elements and groups and of the bytes of the groups'
+// names, or the number that refuses the lot with 0 for each. An accepted lot's coordinates, three a node, and indices, eight an element, are
+// written to the lent words, and so are its groups: their names end to end, the length of each name, and the count of elements before
+// each group. Its label is handed back as the part of the file that it is: the last clause says where that part starts. A refused lot leaves
+// the lent words as they are, and the part is empty.
 pub fn read<'a>(
     file: &'a [u8],
     nodes: &mut [i32],
     elements: &mut [u32],
-    answer: &mut [u32; 3],
+    names: &mut [u8],
+    lengths: &mut [u32],
+    befores: &mut [u32],
+    answer: &mut [u32; 5],
 ) -> &'a [u8]
-    ensures { λ r. ⌜ now r ≡ handedOut (readInto lotFile (now (file .entry)) (now (nodes .entry)) (now (elements .entry))) .label ⌝ }
-    ensures { λ r. ⌜ now (nodes .exit) ≡ laidOver (handedOut (readInto lotFile (now (file .entry)) (now (nodes .entry)) (now (elements .entry))) .nodes) (now (nodes .entry)) ⌝ }
-    ensures { λ r. ⌜ now (elements .exit) ≡ laidOver (handedOut (readInto lotFile (now (file .entry)) (now (nodes .entry)) (now (elements .entry))) .elements) (now (elements .entry)) ⌝ }
-    ensures { λ r. ⌜ now (answer .exit) ≡ readingNumbers (readInto lotFile (now (file .entry)) (now (nodes .entry)) (now (elements .entry))) ⌝ }
-    ensures { λ r. ⌜ ptr r ≡ (ptr (file .entry) .0, labelPlace (readInto lotFile (now (file .entry)) (now (nodes .entry)) (now (elements .entry))) + ptr (file .entry) .1) ⌝ }
+    ensures { λ r. ⌜ now r ≡ handedOut (readInto lotFile (now (file .entry)) (now (nodes .entry)) (now (elements .entry)) (now (names .entry)) (now (lengths .entry)) (now (befores .entry))) .label ⌝ }
+    ensures { λ r. ⌜ now (nodes .exit) ≡ laidOver (handedOut (readInto lotFile (now (file .entry)) (now (nodes .entry)) (now (elements .entry)) (now (names .entry)) (now (lengths .entry)) (now (befores .entry))) .nodes) (now (nodes .entry)) ⌝ }
+    ensures { λ r. ⌜ now (elements .exit) ≡ laidOver (handedOut (readInto lotFile (now (file .entry)) (now (nodes .entry)) (now (elements .entry)) (now (names .entry)) (now (lengths .entry)) (now (befores .entry))) .elements) (now (elements .entry)) ⌝ }
+    ensures { λ r. ⌜ now (names .exit) ≡ laidOver (handedOut (readInto lotFile (now (file .entry)) (now (nodes .entry)) (now (elements .entry)) (now (names .entry)) (now (lengths .entry)) (now (befores .entry))) .names) (now (names .entry)) ⌝ }
+    ensures { λ r. ⌜ now (lengths .exit) ≡ laidOver (handedOut (readInto lotFile (now (file .entry)) (now (nodes .entry)) (now (elements .entry)) (now (names .entry)) (now (lengths .entry)) (now (befores .entry))) .lengths) (now (lengths .entry)) ⌝ }
+    ensures { λ r. ⌜ now (befores .exit) ≡ laidOver (handedOut (readInto lotFile (now (file .entry)) (now (nodes .entry)) (now (elements .entry)) (now (names .entry)) (now (lengths .entry)) (now (befores .entry))) .befores) (now (befores .entry)) ⌝ }
+    ensures { λ r. ⌜ now (answer .exit) ≡ readingNumbers (readInto lotFile (now (file .entry)) (now (nodes .entry)) (now (elements .entry)) (now (names .entry)) (now (lengths .entry)) (now (befores .entry))) ⌝ }
+    ensures { λ r. ⌜ ptr r ≡ (ptr (file .entry) .0, labelPlace (readInto lotFile (now (file .entry)) (now (nodes .entry)) (now (elements .entry)) (now (names .entry)) (now (lengths .entry)) (now (befores .entry))) + ptr (file .entry) .1) ⌝ }
 {
-    let found = scan_with_room(file, nodes.len(), elements.len());
+    let room = Room {
+        nodes: nodes.len(),
+        elements: elements.len(),
+        names: names.len(),
+        lengths: lengths.len(),
+        befores: befores.len(),
+    };
+    let found = scan_with_room(file, room);
     match found {
         Scan::Refused(r) => {
             let number = refusal_number(r);
-            *answer = [number, 0, 0];
+            *answer = [number, 0, 0, 0, 0];
             &file[0..0]
         }
         Scan::Counted(n) => {
-            hand_out(file, nodes, elements);
+            hand_out(file, nodes, elements, names, lengths, befores);
             let node_count = n.nodes as u32;
             let element_count = n.elements as u32;
-            *answer = [0, node_count, element_count];
+            let group_count = n.groups as u32;
+            let name_bytes = n.names as u32;
+            *answer = [0, node_count, element_count, group_count, name_bytes];
             let end = 4 + n.label;
             &file[4..end]
         }

@@ -1,6 +1,6 @@
 -- An accepted file is the writing-out of the lot that is handed out, and this lot keeps to the limits.
-use mathlib.Core.Path.{_≡_, refl, sym, _∙_, subst}
-use mathlib.Core.Bool.{Bool, true, false}
+use mathlib.Core.Path.{_≡_, refl, sym, _∙_, ap, subst}
+use mathlib.Core.Bool.{Bool, true, false, _&&_}
 use mathlib.Core.List.{List, []}
 use Prim.Native.Nat.{ℕ, suc, _+_, _≤_}
 use native.Mathlib.Omega.{arith}
@@ -12,7 +12,8 @@ use borrow.Author.Tests.{ltb-false}
 use Rattle.foundation.specs.Lists.{All}
 use Rattle.lotfile.specs.Numbers.{Byte}
 use Rattle.lotfile.specs.Format.{FileLimits, Lot, atLabel, atEnd, written}
-use Rattle.lotfile.specs.Reading.{tooLong, noRoom, Reading, accepted, refused, readFrom, noLot, readLot, roomFor, reading, handedOut}
+use Rattle.lotfile.specs.Runs.{Runs, runsOf}
+use Rattle.lotfile.specs.Reading.{tooLong, noRoom, Reading, accepted, refused, readFrom, noLot, readLot, Room, roomFor, reading, handedOut}
 use Rattle.lotfile.specs.Through.{not-accepted, through}
 use Rattle.lotfile.specs.Lawful.{Lawful, lawful-noLot}
 use Rattle.lotfile.specs.Between.{Between, between-step}
@@ -51,32 +52,52 @@ module _ (F : FileLimits) (file : List ℕ) (lot : Lot) where
   accepted-label-fits h e = rw (accepted-written h e) (simp length-append (omega arith))
 
 -- ---- with lent space: what is handed out is what the file holds, and there is room for it
-module _ (F : FileLimits) (file : List ℕ) (nodes elements : ℕ) (lot : Lot) where
-  roomy : (l : Lot) → elim (roomFor l nodes elements) [ true ↦ accepted l | false ↦ refused noRoom ] ≡ accepted lot → (accepted l ≡ accepted lot) × (roomFor l nodes elements ≡ true)
-  roomy l e = go (roomFor l nodes elements) refl e
-    where
-      go : (t : Bool) → roomFor l nodes elements ≡ t → elim t [ true ↦ accepted l | false ↦ refused noRoom ] ≡ accepted lot → (accepted l ≡ accepted lot) × (roomFor l nodes elements ≡ true)
-      go true p e = (e, p)
-      go false p e = not-accepted noRoom e
-
-  pub reading-accepted : reading F file nodes elements ≡ accepted lot → (readLot F file ≡ accepted lot) × (length (lot .nodes) ≤ nodes) × (length (lot .elements) ≤ elements)
+module _ (F : FileLimits) (file : List ℕ) (room : Room) (lot : Lot) where
+  pub reading-accepted : reading F file room ≡ accepted lot → (readLot F file ≡ accepted lot) × (roomFor (runsOf lot) room ≡ true)
   unfolding reading
   reading-accepted e = go (readLot F file) refl e
     where
-      go : (r : Reading) → readLot F file ≡ r → elim r [ refused w ↦ refused w | accepted l ↦ elim (roomFor l nodes elements) [ true ↦ accepted l | false ↦ refused noRoom ] ] ≡ accepted lot
-          → (readLot F file ≡ accepted lot) × (length (lot .nodes) ≤ nodes) × (length (lot .elements) ≤ elements)
+      roomy : (l : Lot) (t : Bool) → roomFor (runsOf l) room ≡ t → elim t [ true ↦ accepted l | false ↦ refused noRoom ] ≡ accepted lot → (l ≡ lot) × (roomFor (runsOf l) room ≡ true)
+      roomy l true p e = (cc, p)
+      roomy l false p e = not-accepted noRoom e
+
+      go : (r : Reading) → readLot F file ≡ r → elim r [ refused w ↦ refused w | accepted l ↦ elim (roomFor (runsOf l) room) [ true ↦ accepted l | false ↦ refused noRoom ] ] ≡ accepted lot
+          → (readLot F file ≡ accepted lot) × (roomFor (runsOf lot) room ≡ true)
       go (refused w) p e = not-accepted w e
-      go (accepted l) p e =
-          let q = roomy l e in
-          let same : l ≡ lot = cc (q .0) in
-          let t : T (roomFor lot nodes elements) = subst (λ (x : Lot). T (roomFor x nodes elements)) same (subst T (sym (q .1)) tt) in
-          (p ∙ q .0, leb→le _ _ (and-l (leb (length (lot .nodes)) nodes) (leb (length (lot .elements)) elements) t), leb→le _ _ (and-r (leb (length (lot .nodes)) nodes) (leb (length (lot .elements)) elements) t))
+      go (accepted l) p e = let q = roomy l (roomFor (runsOf l) room) refl e in (p ∙ ap accepted (q .0), subst (λ (x : Lot). roomFor (runsOf x) room ≡ true) (q .0) (q .1))
+
+-- each run fits the lent one
+pub record Fits (x : Runs) (room : Room) : Type 0 where
+  pub nodes : length (x .nodes) ≤ room .nodes
+  pub elements : length (x .elements) ≤ room .elements
+  pub names : length (x .names) ≤ room .names
+  pub lengths : length (x .lengths) ≤ room .lengths
+  pub befores : length (x .befores) ≤ room .befores
+
+pub room-fits : (x : Runs) (room : Room) → roomFor x room ≡ true → Fits x room
+room-fits x room e =
+    let nodes = leb (length (x .nodes)) (room .nodes) in
+    let elements = leb (length (x .elements)) (room .elements) in
+    let names = leb (length (x .names)) (room .names) in
+    let lengths = leb (length (x .lengths)) (room .lengths) in
+    let befores = leb (length (x .befores)) (room .befores) in
+    let t₀ : T (nodes && (elements && (names && (lengths && befores)))) = subst T (sym e) tt in
+    let t₁ = and-r nodes (elements && (names && (lengths && befores))) t₀ in
+    let t₂ = and-r elements (names && (lengths && befores)) t₁ in
+    let t₃ = and-r names (lengths && befores) t₂ in
+    record {
+      nodes = leb→le _ _ (and-l nodes (elements && (names && (lengths && befores))) t₀);
+      elements = leb→le _ _ (and-l elements (names && (lengths && befores)) t₁);
+      names = leb→le _ _ (and-l names (lengths && befores) t₂);
+      lengths = leb→le _ _ (and-l lengths befores t₃);
+      befores = leb→le _ _ (and-r lengths befores t₃);
+    }
 
 -- ---- the label that is handed out, of any file
-module _ (F : FileLimits) (file : List ℕ) (nodes elements : ℕ) (h : All Byte file) where
-  pub handed-label-short : length (handedOut (reading F file nodes elements) .label) ≤ F .name
-  handed-label-short = go (reading F file nodes elements) refl
+module _ (F : FileLimits) (file : List ℕ) (room : Room) (h : All Byte file) where
+  pub handed-label-short : length (handedOut (reading F file room) .label) ≤ F .name
+  handed-label-short = go (reading F file room) refl
     where
-      go : (r : Reading) → reading F file nodes elements ≡ r → length (handedOut r .label) ≤ F .name
+      go : (r : Reading) → reading F file room ≡ r → length (handedOut r .label) ≤ F .name
       go (refused w) e = omega arith
-      go (accepted lot) e = accepted-lawful F file lot h (reading-accepted F file nodes elements lot e .0) .label .short
+      go (accepted lot) e = accepted-lawful F file lot h (reading-accepted F file room lot e .0) .label .short

@@ -12,7 +12,7 @@ use lib.Seq.{length-take-le, drop-drop}
 use borrow.Author.Tests.{ltb-false}
 use Rattle.foundation.specs.Lists.{All}
 use Rattle.lotfile.specs.Numbers.{Byte, number, numberBytes}
-use Rattle.lotfile.specs.Format.{FileLimits, Mark, LB, ND, HX, EN, letters, isMark, markOf, rightLength, Stage, inPlace, entryBytes}
+use Rattle.lotfile.specs.Format.{FileLimits, Mark, LB, ND, HX, GR, EN, letters, isMark, markOf, rightLength, Stage, inPlace, entryBytes}
 use Rattle.lotfile.specs.Reading.{Refusal, cutShort, unknownMark, wrongLength, outOfPlace, bodyFault, Entry, faulty, whole, bodyOf, knownOf, entryOf}
 use Rattle.lotfile.specs.NumberLaws.{bytes-take, bytes-drop, numberBytes-number}
 
@@ -21,6 +21,7 @@ letters-two : (m : Mark) → letters m ≡ getD (letters m) 0 0 ∷ getD (letter
 letters-two LB = refl
 letters-two ND = refl
 letters-two HX = refl
+letters-two GR = refl
 letters-two EN = refl
 
 module _ (a b : ℕ) where
@@ -40,7 +41,7 @@ module _ (a b : ℕ) where
 
   pub mark-letters : (m : Mark) → markOf a b ≡ some m → letters m ≡ a ∷ b ∷ []
   unfolding markOf
-  mark-letters m e = tested m LB _ (tested m ND _ (tested m HX _ (tested m EN none (λ e. cc)))) e
+  mark-letters m e = tested m LB _ (tested m ND _ (tested m HX _ (tested m GR _ (tested m EN none (λ e. cc))))) e
 
 -- ---- a whole entry stands first exactly where each test was passed
 module _ {m : Mark} {body : List ℕ} where

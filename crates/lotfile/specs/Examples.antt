@@ -1,13 +1,13 @@
--- A small lot file, and what is done to it to meet each refusal, as a single list under one claim.
+-- A small lot file without groups and one with, and what is done to them to meet each refusal, as a single list under one claim.
 use mathlib.Core.Path.{_≡_, refl}
 use mathlib.Core.List.{List, [], _∷_, _++_}
 use Prim.Native.Nat.{ℕ}
-use lib.ListN.{take, drop}
+use lib.ListN.{length, take, drop}
 use lib.IntN.{pos, negsuc}
 use Rattle.foundation.specs.Lists.{All}
 use Rattle.lotfile.specs.Numbers.{signed}
 use Rattle.lotfile.specs.Format.{FileLimits, lotFile, Lot, markOf, written}
-use Rattle.lotfile.specs.Reading.{tooLong, cutShort, unknownMark, wrongLength, outOfPlace, badByte, tooManyElements, noRoom, bodyOf, knownOf, entryOf, Reading, accepted, refused, readFrom, readLot, reading}
+use Rattle.lotfile.specs.Reading.{tooLong, cutShort, unknownMark, wrongLength, outOfPlace, badByte, tooManyElements, noRoom, bodyOf, knownOf, entryOf, Reading, accepted, refused, readFrom, readLot, Room, reading}
 
 -- "CUBE", the node (1, −1, −2,147,483,648), and an element; its last two indices are 256 and 4,294,967,295
 abbrev pub labelEntry : List ℕ
@@ -23,32 +23,53 @@ abbrev pub endEntry : List ℕ
 endEntry = 69 ∷ 78 ∷ 0 ∷ 0 ∷ []
 
 abbrev pub sample : Lot
-sample = record { label = 67 ∷ 85 ∷ 66 ∷ 69 ∷ []; nodes = pos 1 ∷ negsuc 0 ∷ negsuc 2147483647 ∷ []; elements = 0 ∷ 1 ∷ 2 ∷ 3 ∷ 4 ∷ 5 ∷ 256 ∷ 4294967295 ∷ [] }
+sample = record { label = 67 ∷ 85 ∷ 66 ∷ 69 ∷ []; nodes = pos 1 ∷ negsuc 0 ∷ negsuc 2147483647 ∷ []; elements = 0 ∷ 1 ∷ 2 ∷ 3 ∷ 4 ∷ 5 ∷ 256 ∷ 4294967295 ∷ []; groups = [] }
 
 abbrev pub sampleFile : List ℕ
 sampleFile = labelEntry ++ (nodeEntry ++ (elementEntry ++ endEntry))
+
+-- the element twice, with groups before it, between the two (two of them) and behind; the first and the third have an empty name
+abbrev pub groupEntry : List ℕ → List ℕ
+groupEntry name = 71 ∷ 82 ∷ length name ∷ 0 ∷ name
+
+abbrev pub grouped : Lot
+grouped = record {
+  label = sample .label;
+  nodes = sample .nodes;
+  elements = sample .elements ++ sample .elements;
+  groups = record { name = []; before = 0 } ∷ record { name = 65 ∷ []; before = 1 } ∷ record { name = []; before = 1 } ∷ record { name = 90 ∷ 122 ∷ []; before = 2 } ∷ [];
+}
+
+abbrev pub groupedFile : List ℕ
+groupedFile = labelEntry ++ (nodeEntry ++ (groupEntry [] ++ (elementEntry ++ (groupEntry (65 ∷ []) ++ (groupEntry [] ++ (elementEntry ++ (groupEntry (90 ∷ 122 ∷ []) ++ endEntry)))))))
 
 pub sample-written : written sample ≡ sampleFile
 unfolding written
 sample-written = refl
 
--- a file, the limits, the lengths of the two lent runs, and the answer
+pub grouped-written : written grouped ≡ groupedFile
+unfolding written
+grouped-written = refl
+
+-- a file, the limits, the lengths of the lent runs, and the answer
 pub record Example : Type 0 where
   pub limits : FileLimits
   pub file : List ℕ
-  pub nodes : ℕ
-  pub elements : ℕ
+  pub room : Room
   pub answer : Reading
 
+abbrev space : ℕ → ℕ → ℕ → ℕ → ℕ → Room
+space nodes elements names lengths befores = record { nodes = nodes; elements = elements; names = names; lengths = lengths; befores = befores }
+
 abbrev read : List ℕ → Reading → Example
-read file answer = record { limits = lotFile; file = file; nodes = 3; elements = 8; answer = answer }
+read file answer = record { limits = lotFile; file = file; room = space 3 8 0 0 0; answer = answer }
 
 -- with room for so much, and with other limits
-abbrev roomy : ℕ → ℕ → Reading → Example
-roomy nodes elements answer = record { limits = lotFile; file = sampleFile; nodes = nodes; elements = elements; answer = answer }
+abbrev roomy : List ℕ → Room → Reading → Example
+roomy file room answer = record { limits = lotFile; file = file; room = room; answer = answer }
 
 abbrev limited : ℕ → ℕ → ℕ → Reading → Example
-limited bytes name elements answer = record { limits = record { bytes = bytes; name = name; elements = elements }; file = sampleFile; nodes = 3; elements = 8; answer = answer }
+limited bytes name elements answer = record { limits = record { bytes = bytes; name = name; elements = elements }; file = sampleFile; room = space 3 8 0 0 0; answer = answer }
 
 abbrev pub examples : List Example
 examples =
@@ -72,7 +93,7 @@ examples =
     read (labelEntry ++ (69 ∷ 78 ∷ 1 ∷ 0 ∷ 0 ∷ [])) (refused wrongLength) ∷
     read (76 ∷ 66 ∷ 1 ∷ 0 ∷ 31 ∷ []) (refused badByte) ∷
     read (76 ∷ 66 ∷ 1 ∷ 0 ∷ 127 ∷ []) (refused badByte) ∷
-    read (76 ∷ 66 ∷ 2 ∷ 0 ∷ 32 ∷ 126 ∷ endEntry) (accepted (record { label = 32 ∷ 126 ∷ []; nodes = []; elements = [] })) ∷
+    read (76 ∷ 66 ∷ 2 ∷ 0 ∷ 32 ∷ 126 ∷ endEntry) (accepted (record { label = 32 ∷ 126 ∷ []; nodes = []; elements = []; groups = [] })) ∷
     read (76 ∷ 66 ∷ 2 ∷ 0 ∷ 31 ∷ []) (refused cutShort) ∷
     read (nodeEntry ++ (1 ∷ [])) (refused outOfPlace) ∷
     read (labelEntry ++ (endEntry ++ (0 ∷ []))) (refused outOfPlace) ∷
@@ -80,17 +101,27 @@ examples =
     limited 63 4 1 (refused tooLong) ∷
     limited 64 3 1 (refused wrongLength) ∷
     limited 64 4 0 (refused tooManyElements) ∷
-    record { limits = record { bytes = 3; name = 4; elements = 1 }; file = 0 ∷ 0 ∷ 0 ∷ 0 ∷ []; nodes = 3; elements = 8; answer = refused tooLong } ∷
-    record { limits = record { bytes = 64; name = 4; elements = 0 }; file = take 59 sampleFile; nodes = 0; elements = 0; answer = refused cutShort } ∷
-    record { limits = lotFile; file = sampleFile ++ (0 ∷ []); nodes = 0; elements = 0; answer = refused outOfPlace } ∷
-    roomy 2 8 (refused noRoom) ∷
-    roomy 3 7 (refused noRoom) ∷
-    roomy 5000 9 (accepted sample) ∷ []
+    record { limits = record { bytes = 3; name = 4; elements = 1 }; file = 0 ∷ 0 ∷ 0 ∷ 0 ∷ []; room = space 3 8 0 0 0; answer = refused tooLong } ∷
+    record { limits = record { bytes = 64; name = 4; elements = 0 }; file = take 59 sampleFile; room = space 0 0 0 0 0; answer = refused cutShort } ∷
+    roomy (sampleFile ++ (0 ∷ [])) (space 0 0 0 0 0) (refused outOfPlace) ∷
+    roomy sampleFile (space 2 8 0 0 0) (refused noRoom) ∷
+    roomy sampleFile (space 3 7 0 0 0) (refused noRoom) ∷
+    roomy sampleFile (space 5000 9 1 1 1) (accepted sample) ∷
+    roomy groupedFile (space 3 16 3 4 4) (accepted grouped) ∷
+    roomy groupedFile (space 3 16 2 4 4) (refused noRoom) ∷
+    roomy groupedFile (space 3 16 3 3 4) (refused noRoom) ∷
+    roomy groupedFile (space 3 16 3 4 3) (refused noRoom) ∷
+    read (groupEntry [] ++ labelEntry) (refused outOfPlace) ∷
+    read (labelEntry ++ (groupEntry [] ++ (nodeEntry ++ endEntry))) (refused outOfPlace) ∷
+    read (labelEntry ++ (71 ∷ 82 ∷ 33 ∷ 0 ∷ [])) (refused wrongLength) ∷
+    read (labelEntry ++ (71 ∷ 82 ∷ 2 ∷ 0 ∷ 31 ∷ [])) (refused cutShort) ∷
+    read (labelEntry ++ groupEntry (127 ∷ [])) (refused badByte) ∷
+    read (labelEntry ++ (71 ∷ 83 ∷ 0 ∷ 0 ∷ [])) (refused unknownMark) ∷ []
 
 -- The one claim.
 abbrev pub Holds : Example → Type 0
-Holds e = reading (e .limits) (e .file) (e .nodes) (e .elements) ≡ e .answer
+Holds e = reading (e .limits) (e .file) (e .room) ≡ e .answer
 
 pub examples-hold : All Holds examples
 unfolding signed markOf bodyOf knownOf entryOf readFrom readLot reading
-examples-hold = (refl, (refl, (refl, (refl, (refl, (refl, (refl, (refl, (refl, (refl, (refl, (refl, (refl, (refl, (refl, (refl, (refl, (refl, (refl, (refl, (refl, (refl, (refl, (refl, (refl, (refl, (refl, (refl, (refl, (refl, (refl, (refl, (refl, (refl, tt))))))))))))))))))))))))))))))))))
+examples-hold = (refl, (refl, (refl, (refl, (refl, (refl, (refl, (refl, (refl, (refl, (refl, (refl, (refl, (refl, (refl, (refl, (refl, (refl, (refl, (refl, (refl, (refl, (refl, (refl, (refl, (refl, (refl, (refl, (refl, (refl, (refl, (refl, (refl, (refl, (refl, (refl, (refl, (refl, (refl, (refl, (refl, (refl, (refl, (refl, tt))))))))))))))))))))))))))))))))))))))))))))

@@ -4,10 +4,11 @@ use mathlib.Core.Bool.{Bool, true, false}
 use mathlib.Core.List.{List}
 use Prim.Native.Nat.{ℕ, zero, suc, _+_, _-_, _/_, _≤_, _<_}
 use native.Mathlib.Omega.{arith}
-use lib.ListN.{length, drop, length-append, length-drop, drop-of-length-le}
+use lib.ListN.{length, drop, length-drop, drop-of-length-le}
 use lib.Seq.{drop-cons, drop-drop}
-use Rattle.lotfile.specs.Format.{FileLimits, Lot, Mark, LB, ND, HX, EN, Stage, atLabel, stageAfter}
-use Rattle.lotfile.specs.Reading.{Refusal, cutShort, outOfPlace, Entry, faulty, whole, entryOf, taken, accepted, refused, hasEnded, ending, readFrom, noLot, readLot}
+use Rattle.lotfile.specs.Format.{FileLimits, Lot, Mark, Stage, atLabel, stageAfter}
+use Rattle.lotfile.specs.Reading.{Refusal, cutShort, outOfPlace, Entry, faulty, whole, entryOf, held, joined, taken, accepted, refused, hasEnded, ending, readFrom, noLot, readLot}
+use Rattle.lotfile.specs.Joined.{joined-assoc, joined-none}
 use Rattle.lotfile.specs.Through.{not-accepted, through}
 use Rattle.lotfile.specs.Steps.{entry-cut, read-ended, read-faulty, read-whole, read-start}
 
@@ -53,14 +54,15 @@ module _ (F : FileLimits) (file : List ℕ) where
     reached-end x e h = let one = step x in one .1 ∙ read-ended F (one .0) stage lot (drop at file) e ∙ ap (ending lot) (drop-of-length-le file h)
 
 -- ---- in a file that is accepted: entry by entry, the lot grows to the one that is handed out
-abbrev Holding : ℕ → ℕ → Stage → Lot → List ℕ → Type 0
-Holding nodes elements stage lot bytes = (nodes ≤ length (lot .nodes)) × (elements ≤ length (lot .elements))
+-- a lot with more behind is another
+pub record Grows (a b : Lot) : Type 0 where
+  pub more : Lot
+  pub is-joined : b ≡ joined a more
 
-holding-taken : (nodes elements : ℕ) (m : Mark) (body : List ℕ) (lot : Lot) → (nodes ≤ length (lot .nodes)) × (elements ≤ length (lot .elements)) → (nodes ≤ length (taken m body lot .nodes)) × (elements ≤ length (taken m body lot .elements))
-holding-taken nodes elements LB body lot h = h
-holding-taken nodes elements ND body lot h = (simp length-append (omega (arith, h .0)), h .1)
-holding-taken nodes elements HX body lot h = (h .0, simp length-append (omega (arith, h .1)))
-holding-taken nodes elements EN body lot h = h
+grows-taken : (m : Mark) (body : List ℕ) (a lot : Lot) → Grows a lot → Grows a (taken m body lot)
+grows-taken m body a lot g =
+    let next = held m body (length (lot .elements) / 8) in
+    record { more = joined (g .more) next; is-joined = ap (λ (l : Lot). joined l next) (g .is-joined) ∙ joined-assoc a (g .more) next }
 
 -- the entry at a place
 pub record Next (F : FileLimits) (file : List ℕ) (at : ℕ) (stage : Stage) (lot : Lot) : Type 0 where
@@ -70,8 +72,8 @@ pub record Next (F : FileLimits) (file : List ℕ) (at : ℕ) (stage : Stage) (l
   pub found : entryOf F stage (length (lot .elements) / 8) (drop at file) ≡ whole mark body
 
 module _ (F : FileLimits) (file : List ℕ) (out : Lot) (good : readLot F file ≡ accepted out) {at : ℕ} {stage : Stage} {lot : Lot} (x : Reached F file at stage lot) where
-  pub reached-grows : (length (lot .nodes) ≤ length (out .nodes)) × (length (lot .elements) ≤ length (out .elements))
-  reached-grows = through F (Holding (length (lot .nodes)) (length (lot .elements))) (λ stage m l bytes body w h. holding-taken _ _ m body l h) out (x .left) stage lot (drop at file) (sym (x .rest) ∙ good) (omega arith, omega arith)
+  pub reached-grows : Grows lot out
+  reached-grows = through F (λ stage l bytes. Grows lot l) (λ stage m l bytes body w g. grows-taken m body lot l g) out (x .left) stage lot (drop at file) (sym (x .rest) ∙ good) (record { more = noLot; is-joined = sym (joined-none lot) })
 
   at-entry : hasEnded stage ≡ false → (e : Entry) → entryOf F stage (length (lot .elements) / 8) (drop at file) ≡ e → Next F file at stage lot
   at-entry u (faulty r) f = not-accepted r (sym (reached-faulty F file x u f) ∙ good)

@@ -1,4 +1,4 @@
--- Document 02, No. 1: what reading a lot file finds. Every list of bytes has exactly one answer.
+-- Document 02, No. 1 and No. 2: what reading a lot file finds. Every list of bytes has exactly one answer.
 use mathlib.Core.Bool.{Bool, true, false, _&&_}
 use mathlib.Core.List.{List, [], _∷_, _++_}
 use mathlib.Core.Option.{Option, none, some}
@@ -7,7 +7,8 @@ use lib.Dec.{leb, ltb}
 use lib.ListN.{getD, length, take, drop}
 use lib.IntN.{ℤ}
 use Rattle.lotfile.specs.Numbers.{number, unsigneds, signeds}
-use Rattle.lotfile.specs.Format.{FileLimits, Lot, Mark, LB, ND, HX, EN, markOf, rightLength, Stage, atLabel, atNodes, atElements, atEnd, inPlace, stageAfter, nameBytes}
+use Rattle.lotfile.specs.Runs.{Runs, runsOf}
+use Rattle.lotfile.specs.Format.{FileLimits, Lot, Mark, LB, ND, HX, GR, EN, markOf, rightLength, Stage, atLabel, atNodes, atElements, atEnd, inPlace, stageAfter, nameBytes}
 
 pub data Refusal : Type 0 where
   tooLong : Refusal
@@ -29,11 +30,15 @@ refusalNumber badByte = 25
 refusalNumber tooManyElements = 26
 refusalNumber noRoom = 27
 
+abbrev pub nameFault : List ℕ → Option Refusal
+nameFault name = elim (nameBytes name) [ true ↦ none | false ↦ some badByte ]
+
 -- "label byte 25; a 1,001st element 26": the fault of a whole entry, where so many elements stand before it
 abbrev pub bodyFault : FileLimits → Mark → ℕ → List ℕ → Option Refusal
-bodyFault F LB n body = elim (nameBytes body) [ true ↦ none | false ↦ some badByte ]
+bodyFault F LB n body = nameFault body
 bodyFault F ND n body = none
 bodyFault F HX n body = elim (ltb n (F .elements)) [ true ↦ none | false ↦ some tooManyElements ]
+bodyFault F GR n body = nameFault body
 bodyFault F EN n body = none
 
 -- What stands first in the bytes that are left: a fault, or a whole entry, by its mark and its body.
@@ -66,12 +71,23 @@ entryOf F stage n bytes =
       | false ↦ elim (markOf (getD bytes 0 0) (getD bytes 1 0)) [ none ↦ faulty unknownMark | some m ↦ knownOf F stage m n bytes ]
     ]
 
--- a lot with one entry more
+abbrev pub noLot : Lot
+noLot = record { label = []; nodes = []; elements = []; groups = [] }
+
+-- what one entry holds, where so many elements stand before it
+abbrev pub held : Mark → List ℕ → ℕ → Lot
+held LB body n = record { label = body; nodes = []; elements = []; groups = [] }
+held ND body n = record { label = []; nodes = signeds 3 body; elements = []; groups = [] }
+held HX body n = record { label = []; nodes = []; elements = unsigneds 8 body; groups = [] }
+held GR body n = record { label = []; nodes = []; elements = []; groups = record { name = body; before = n } ∷ [] }
+held EN body n = noLot
+
+-- a lot with what another holds behind it, and so a lot with one entry more
+abbrev pub joined : Lot → Lot → Lot
+joined a b = record { label = a .label ++ b .label; nodes = a .nodes ++ b .nodes; elements = a .elements ++ b .elements; groups = a .groups ++ b .groups }
+
 abbrev pub taken : Mark → List ℕ → Lot → Lot
-taken LB body lot = record { label = body; nodes = lot .nodes; elements = lot .elements }
-taken ND body lot = record { label = lot .label; nodes = lot .nodes ++ signeds 3 body; elements = lot .elements }
-taken HX body lot = record { label = lot .label; nodes = lot .nodes; elements = lot .elements ++ unsigneds 8 body }
-taken EN body lot = lot
+taken m body lot = joined lot (held m body (length (lot .elements) / 8))
 
 -- The answer: the lot, or why it is refused.
 pub data Reading : Type 0 where
@@ -103,45 +119,57 @@ readFrom F (suc k) stage lot bytes =
           ]
     ]
 
-abbrev pub noLot : Lot
-noLot = record { label = []; nodes = []; elements = [] }
-
 -- "20 file too long, tested first."
 unfoldable pub readLot : FileLimits → List ℕ → Reading
 readLot F file = elim (ltb (F .bytes) (length file)) [ true ↦ refused tooLong | false ↦ readFrom F (suc (length file)) atLabel noLot file ]
 
--- "A lot without fault whose nodes or elements don't fit the lent space is 27." The lengths of the two lent runs.
-abbrev pub roomFor : Lot → ℕ → ℕ → Bool
-roomFor lot nodes elements = leb (length (lot .nodes)) nodes && leb (length (lot .elements)) elements
+-- "A lot without fault whose nodes or elements don't fit the lent space is 27", and No. 2: "its 27 counts groups too". The lengths of the lent runs.
+pub record Room : Type 0 where
+  pub nodes : ℕ
+  pub elements : ℕ
+  pub names : ℕ
+  pub lengths : ℕ
+  pub befores : ℕ
 
-unfoldable pub reading : FileLimits → List ℕ → ℕ → ℕ → Reading
-reading F file nodes elements = elim (readLot F file) [
+abbrev pub roomFor : Runs → Room → Bool
+roomFor x room =
+    leb (length (x .nodes)) (room .nodes)
+    && (leb (length (x .elements)) (room .elements)
+    && (leb (length (x .names)) (room .names) && (leb (length (x .lengths)) (room .lengths) && leb (length (x .befores)) (room .befores))))
+
+unfoldable pub reading : FileLimits → List ℕ → Room → Reading
+reading F file room = elim (readLot F file) [
   | refused r ↦ refused r
-  | accepted lot ↦ elim (roomFor lot nodes elements) [ true ↦ accepted lot | false ↦ refused noRoom ]
+  | accepted lot ↦ elim (roomFor (runsOf lot) room) [ true ↦ accepted lot | false ↦ refused noRoom ]
 ]
 
 -- the same by the lent runs themselves
-abbrev pub readInto : FileLimits → List ℕ → List ℤ → List ℕ → Reading
-readInto F file nodes elements = reading F file (length nodes) (length elements)
+abbrev pub readInto : FileLimits → List ℕ → List ℤ → List ℕ → List ℕ → List ℕ → List ℕ → Reading
+readInto F file nodes elements names lengths befores =
+    reading F file (record { nodes = length nodes; elements = length elements; names = length names; lengths = length lengths; befores = length befores })
 
 -- ---- what is handed out: "Nothing of a refused lot is handed out"
-abbrev pub handedOut : Reading → Lot
-handedOut (accepted lot) = lot
-handedOut (refused r) = noLot
+abbrev pub lotOf : Reading → Lot
+lotOf (accepted lot) = lot
+lotOf (refused r) = noLot
+
+abbrev pub handedOut : Reading → Runs
+handedOut r = runsOf (lotOf r)
 
 -- where in the file the label starts: behind the four bytes of its mark and length
 abbrev pub labelPlace : Reading → ℕ
 labelPlace (accepted lot) = 4
 labelPlace (refused r) = 0
 
--- the number 0 with the counts of nodes and elements, or the refusal's number with counts 0
+-- the number 0 with the counts of nodes, elements, groups and bytes of their names, or the refusal's number with counts 0
 abbrev pub readingNumber : Reading → ℕ
 readingNumber (accepted lot) = 0
 readingNumber (refused r) = refusalNumber r
 
 unfoldable pub readingNumbers : Reading → List ℕ
-readingNumbers r = readingNumber r ∷ length (handedOut r .nodes) / 3 ∷ length (handedOut r .elements) / 8 ∷ []
-
--- lent space afterwards: "A refusal leaves lent space untouched, and so is space past an answer's end."
-abbrev pub laidOver : {A : Type 0} → List A → List A → List A
-laidOver xs space = xs ++ drop (length xs) space
+readingNumbers r =
+    readingNumber r ∷
+    length (handedOut r .nodes) / 3 ∷
+    length (handedOut r .elements) / 8 ∷
+    length (handedOut r .lengths) ∷
+    length (handedOut r .names) ∷ []

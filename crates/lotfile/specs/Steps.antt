@@ -4,11 +4,12 @@ use mathlib.Core.Bool.{true, false}
 use mathlib.Core.List.{List}
 use mathlib.Core.Option.{none, some}
 use Prim.Native.Nat.{ℕ, suc, _+_, _/_, _≤_, _<_}
-use borrow.Author.Tests.{lt-ltb, le-ltb, lt-leb, le-leb}
+use borrow.Author.Tests.{lt-ltb, le-ltb}
 use lib.ListN.{getD, length, take, drop}
 use Rattle.lotfile.specs.Numbers.{number}
 use Rattle.lotfile.specs.Format.{FileLimits, Lot, Mark, markOf, rightLength, Stage, atLabel, inPlace, stageAfter}
-use Rattle.lotfile.specs.Reading.{Refusal, tooLong, cutShort, unknownMark, wrongLength, outOfPlace, bodyFault, faulty, whole, bodyOf, knownOf, entryOf, noRoom, taken, accepted, refused, hasEnded, ending, readFrom, noLot, readLot, reading}
+use Rattle.lotfile.specs.Runs.{runsOf}
+use Rattle.lotfile.specs.Reading.{Room, roomFor, Refusal, tooLong, cutShort, unknownMark, wrongLength, outOfPlace, bodyFault, faulty, whole, bodyOf, knownOf, entryOf, noRoom, taken, accepted, refused, hasEnded, ending, readFrom, noLot, readLot, reading}
 
 -- ---- a body
 module _ (F : FileLimits) (m : Mark) (n len : ℕ) (rest : List ℕ) where
@@ -75,21 +76,17 @@ pub read-start : (F : FileLimits) (file : List ℕ) → length file ≤ F .bytes
 unfolding readLot
 read-start F file h = rw (le-ltb (F .bytes) (length file) h, readLot)
 
--- ---- the lent space; the lengths of the two lent runs
-module _ (F : FileLimits) (file : List ℕ) (nodes elements : ℕ) where
-  pub reading-refused : {r : Refusal} → readLot F file ≡ refused r → reading F file nodes elements ≡ refused r
+-- ---- the lent space
+module _ (F : FileLimits) (file : List ℕ) (room : Room) where
+  pub reading-refused : {r : Refusal} → readLot F file ≡ refused r → reading F file room ≡ refused r
   unfolding reading
   reading-refused e = rw (e, reading)
 
   module _ {lot : Lot} (good : readLot F file ≡ accepted lot) where
-    pub reading-no-nodes : nodes < length (lot .nodes) → reading F file nodes elements ≡ refused noRoom
+    pub reading-full : roomFor (runsOf lot) room ≡ false → reading F file room ≡ refused noRoom
     unfolding reading
-    reading-no-nodes h = rw (good, lt-leb (length (lot .nodes)) nodes h, reading)
+    reading-full h = rw (good, h, reading)
 
-    pub reading-no-elements : elements < length (lot .elements) → length (lot .nodes) ≤ nodes → reading F file nodes elements ≡ refused noRoom
+    pub reading-fits : roomFor (runsOf lot) room ≡ true → reading F file room ≡ accepted lot
     unfolding reading
-    reading-no-elements h k = rw (good, le-leb (length (lot .nodes)) nodes k, lt-leb (length (lot .elements)) elements h, reading)
-
-    pub reading-fits : length (lot .nodes) ≤ nodes → length (lot .elements) ≤ elements → reading F file nodes elements ≡ accepted lot
-    unfolding reading
-    reading-fits h k = rw (good, le-leb (length (lot .nodes)) nodes h, le-leb (length (lot .elements)) elements k, reading)
+    reading-fits h = rw (good, h, reading)

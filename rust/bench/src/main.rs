@@ -1,11 +1,12 @@
 //! Time an element: the built library, an ordinary Rust version with direct
 //! formulas, that version with the library's sparing of clear halves, and the
-//! library's own method in ordinary Rust.  Time a lot file: the library, and two
-//! ordinary Rust readers.
+//! library's own method in ordinary Rust.  Time a lot file: the library, and
+//! ordinary Rust readers, a writer and a printer of slips.
 //!
 //! Prints, for lots of 900 elements at depth 3, the best of several rounds in
 //! microseconds an element and the ratios.  The four reports of each lot must
-//! be the same, word for word; so must what the three readers give of each file.
+//! be the same, word for word; so must what the readers give of each file, the
+//! writers of each lot and the printers of each slip.
 //! Use: `bench`, or `bench ROUNDS`, or `bench ROUNDS NAME` for the lots and
 //! files whose name begins with NAME.
 
@@ -19,11 +20,15 @@ mod mesh;
 mod reader;
 mod reading;
 mod same_method;
+mod slips;
+mod timing;
+mod writer;
+mod writing;
 
 use lots::{lots, Lot, DEPTH, ELEMENTS};
 use mesh::Answer;
 use std::hint::black_box;
-use std::time::{Duration, Instant};
+use timing::Version;
 
 type Inspect = fn(&[i32], &[u32], u32, &mut [i64]) -> Answer;
 
@@ -51,38 +56,20 @@ fn report_of(lot: &Lot, inspect: Inspect) -> (Answer, Vec<i64>) {
     (answer, report)
 }
 
-/// The time of `times` inspections of a lot.
-fn time(lot: &Lot, inspect: Inspect, report: &mut [i64], times: u32) -> Duration {
-    let start = Instant::now();
-    for _ in 0..times {
-        let answer =
-            inspect(black_box(&lot.coordinates), black_box(&lot.indices), black_box(DEPTH), report);
-        black_box(answer);
-        black_box(&mut *report);
-    }
-    start.elapsed()
-}
-
-/// How often a lot is inspected to fill some ten milliseconds.
-fn times_a_round(lot: &Lot, inspect: Inspect, report: &mut [i64]) -> u32 {
-    let once = time(lot, inspect, report, 3) / 3;
-    (Duration::from_millis(10).as_nanos() / once.as_nanos().max(1)).clamp(1, 10_000) as u32
-}
-
-/// Best time an element of each version, in microseconds; the versions take
-/// turns, so that a disturbance meets them alike.
-fn best(lot: &Lot, rounds: u32) -> [f64; 4] {
+/// Inspects a lot once, for its time.
+fn version(inspect: Inspect, lot: &Lot) -> Version<'_> {
     let mut report = vec![0; 8 * ELEMENTS];
-    let times = VERSIONS.map(|(_, inspect)| times_a_round(lot, inspect, &mut report));
-    let mut best = [f64::INFINITY; 4];
-    for _ in 0..rounds {
-        for (version, (_, inspect)) in VERSIONS.iter().enumerate() {
-            let took = time(lot, *inspect, &mut report, times[version]);
-            let an_element = took.as_secs_f64() * 1e6 / f64::from(times[version]) / ELEMENTS as f64;
-            best[version] = best[version].min(an_element);
-        }
-    }
-    best
+    Box::new(move || {
+        let (coordinates, indices) = (black_box(&lot.coordinates), black_box(&lot.indices));
+        black_box(inspect(coordinates, indices, black_box(DEPTH), &mut report));
+        black_box(&mut report);
+    })
+}
+
+/// Best time an element of each version, in microseconds.
+fn best(lot: &Lot, rounds: u32) -> [f64; 4] {
+    let a_lot = timing::best(rounds, VERSIONS.map(|(_, inspect)| version(inspect, lot)));
+    a_lot.map(|time| time / ELEMENTS as f64)
 }
 
 /// The reports of all versions, found equal; the lot's own figures.
@@ -137,5 +124,7 @@ fn main() -> Result<(), String> {
             library / same
         );
     }
-    reading::print(rounds, &name)
+    reading::print(rounds, &name)?;
+    writing::print(rounds, &name)?;
+    slips::print(rounds, &lots)
 }

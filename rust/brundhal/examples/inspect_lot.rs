@@ -1,33 +1,49 @@
-//! Reads a lot file, inspects its mesh at depth 3 and prints the label, the
-//! counts and the stamp.  Use: `inspect_lot FILE`.
+//! Reads a lot file, inspects its mesh at depth 3 and prints the label, what the lot
+//! holds, each element's name and verdict, the counts and the stamp; then writes the
+//! lot and finds the file again.  Use: `inspect_lot FILE`.
 
 #![deny(warnings)]
 
+use brundhal::{GroupSpace, Groups, Inspection, Stamp};
 use std::process::ExitCode;
 
-fn main() -> ExitCode {
-    let Some(name) = std::env::args_os().nth(1) else {
-        eprintln!("use: inspect_lot FILE");
-        return ExitCode::FAILURE;
-    };
-    let file = match std::fs::read(&name) {
-        Ok(file) => file,
-        Err(error) => {
-            eprintln!("{}: {error}", name.display());
-            return ExitCode::FAILURE;
-        }
-    };
+/// Each element's name, a part of the lot's names or its label, and its verdict.
+fn print_elements(label: &[u8], groups: Groups, report: &[i64]) {
+    for (element, record) in (0..).zip(report.chunks_exact(brundhal::RECORD_WORDS)) {
+        let name = brundhal::name_of(label, groups, element).bytes().escape_ascii();
+        let verdict = match record[0] {
+            0 => "valid",
+            1 => "invalid",
+            2 => "undecided",
+            _ => "refused",
+        };
+        println!("element {} of {name}: {verdict}", element + 1);
+    }
+}
 
+fn print_counts(answer: Inspection) {
+    let Inspection { valid, invalid, undecided, refused, .. } = answer;
+    println!("valid {valid} invalid {invalid} undecided {undecided} refused {refused}");
+    match brundhal::stamp(answer) {
+        Stamp::Sound => println!("stamp sound"),
+        Stamp::Faulty => println!("stamp faulty"),
+    }
+}
+
+fn inspect(file: &[u8]) -> Result<(), String> {
     // Space in which every lot fits.
     let mut nodes = vec![0; brundhal::LOT_NODE_WORDS];
     let mut elements = vec![0; brundhal::LOT_ELEMENT_WORDS];
-    let lot = brundhal::read_lot(&file, &mut nodes, &mut elements);
+    let mut names = vec![0; brundhal::LOT_NAME_BYTES];
+    let mut lengths = vec![0; brundhal::LOT_GROUPS];
+    let mut befores = vec![0; brundhal::LOT_GROUPS];
+    let space = GroupSpace { names: &mut names, lengths: &mut lengths, befores: &mut befores };
+    let lot = brundhal::read_lot(file, &mut nodes, &mut elements, space);
     if lot.number != 0 {
-        eprintln!("lot refused {}", lot.number);
-        return ExitCode::FAILURE;
+        return Err(format!("lot refused {}", lot.number));
     }
     println!("label {}", lot.label.escape_ascii());
-    println!("nodes {} elements {}", lot.nodes, lot.elements);
+    println!("nodes {} elements {} groups {}", lot.nodes, lot.elements, lot.groups);
 
     // What was read goes into the inspection as it is, three coordinates a node
     // and eight indices an element.
@@ -36,16 +52,36 @@ fn main() -> ExitCode {
     let mut report = vec![0; indices.len()];
     let answer = brundhal::inspect(coordinates, indices, 3, &mut report);
     if answer.number != 0 {
-        eprintln!("mesh refused {}", answer.number);
+        return Err(format!("mesh refused {}", answer.number));
+    }
+    let groups = Groups {
+        names: &names[..lot.names as usize],
+        lengths: &lengths[..lot.groups as usize],
+        befores: &befores[..lot.groups as usize],
+    };
+    print_elements(lot.label, groups, &report);
+    print_counts(answer);
+
+    let mut written = vec![0; brundhal::LOT_BYTES];
+    let answer = brundhal::write_lot(lot.label, coordinates, indices, groups, &mut written);
+    if answer.number != 0 || &written[..answer.len as usize] != file {
+        return Err("the lot is not written back".to_string());
+    }
+    println!("written back in {} bytes", file.len());
+    Ok(())
+}
+
+fn main() -> ExitCode {
+    let Some(name) = std::env::args_os().nth(1) else {
+        eprintln!("use: inspect_lot FILE");
         return ExitCode::FAILURE;
+    };
+    let file = std::fs::read(&name).map_err(|error| format!("{}: {error}", name.display()));
+    match file.and_then(|file| inspect(&file)) {
+        Ok(()) => ExitCode::SUCCESS,
+        Err(what) => {
+            eprintln!("{what}");
+            ExitCode::FAILURE
+        }
     }
-    println!(
-        "valid {} invalid {} undecided {} refused {}",
-        answer.valid, answer.invalid, answer.undecided, answer.refused
-    );
-    match brundhal::stamp(answer) {
-        brundhal::Stamp::Sound => println!("stamp sound"),
-        brundhal::Stamp::Faulty => println!("stamp faulty"),
-    }
-    ExitCode::SUCCESS
 }

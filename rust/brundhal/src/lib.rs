@@ -1,14 +1,18 @@
 //! The mesh inspector for Rust callers: a safe wrapper over libbrundhal.a.
 //!
 //! The library decides, in whole numbers and without rounding, whether the
-//! Jacobian determinant of trilinear hexahedra is positive.  Its code is proved
+//! Jacobian determinant of trilinear hexahedra is positive; it reads and writes the
+//! lot files in which meshes arrive, and prints slips of them.  Its code is proved
 //! against the definitions of documents 01 and 02; this crate adds the
-//! declarations, and cuts a lot's label out of the caller's file where the library
-//! says that it stands.  Nothing has to be checked before a call: every argument
-//! is taken, and every answer is laid down there.
+//! declarations, and cuts a lot's label and an element's name out of the caller's
+//! own bytes where the library says that they stand.  Nothing has to be checked
+//! before a call: every argument is taken, and every answer is laid down there.
 
 #![deny(warnings)]
 #![deny(unsafe_op_in_unsafe_fn)]
+
+#[cfg(test)]
+mod tests;
 
 /// Words in a record, and report words an element: 01, "The report space is
 /// signed 64-bit, eight words per element."
@@ -18,9 +22,15 @@ pub const RECORD_WORDS: usize = 8;
 pub const LOT_BYTES: usize = 65_536;
 
 /// Lent space in which every lot fits: 4,095 nodes are the most that a file
-/// holds, three words each, and 1,000 elements are allowed, eight words each.
+/// holds, three words each, and 1,000 elements are allowed, eight words each; a
+/// file holds 16,382 groups at most, and 58,244 bytes of their names.
 pub const LOT_NODE_WORDS: usize = 3 * 4095;
 pub const LOT_ELEMENT_WORDS: usize = 8 * 1000;
+pub const LOT_GROUPS: usize = 16_382;
+pub const LOT_NAME_BYTES: usize = 58_244;
+
+/// Lent space in which every slip fits.
+pub const SLIP_BYTES: usize = 262_144;
 
 /// The answer of an inspection.  01: "An accepted mesh answers 0 with four
 /// counts: valid, invalid, undecided, refused."
@@ -74,23 +84,71 @@ pub enum Stamp {
     Faulty,
 }
 
+/// The groups of a lot.  01: "names laid end to end, with each one's length and
+/// the count of elements before it".
+#[derive(Clone, Copy, Debug, Default, PartialEq, Eq)]
+pub struct Groups<'a> {
+    pub names: &'a [u8],
+    pub lengths: &'a [u32],
+    pub befores: &'a [u32],
+}
+
+/// Lent space for the groups of a lot.
+#[derive(Debug, Default, PartialEq, Eq)]
+pub struct GroupSpace<'a> {
+    pub names: &'a mut [u8],
+    pub lengths: &'a mut [u32],
+    pub befores: &'a mut [u32],
+}
+
 /// The answer of reading a lot file.
 #[derive(Clone, Copy, Debug, PartialEq, Eq)]
 pub struct Lot<'a> {
-    /// 0, or 20 to 27 for a lot that is refused; both counts are then 0 and the
+    /// 0, or 20 to 27 for a lot that is refused; all counts are then 0 and the
     /// label is empty.
     pub number: u32,
-    /// The number of nodes, and of elements.
+    /// The numbers of nodes, of elements and of groups, and the bytes of all
+    /// groups' names together.
     pub nodes: u32,
     pub elements: u32,
+    pub groups: u32,
+    pub names: u32,
     /// 02: "the label comes back as the bytes in the file themselves, not as a
     /// copy."
     pub label: &'a [u8],
 }
 
+/// The answer of writing a lot file.
+#[repr(C)]
+#[derive(Clone, Copy, Debug, Default, PartialEq, Eq)]
+pub struct Written {
+    /// 0, or 2, 3, 20 or 23 to 27 for a lot that is refused.
+    pub number: u32,
+    /// The file's length; 0 for a lot that is refused.
+    pub len: u32,
+}
+
+/// The name that an element bears: a part of the caller's own bytes.
+#[derive(Clone, Copy, Debug, PartialEq, Eq)]
+pub enum Name<'a> {
+    /// Its group's, which is not empty.
+    Group(&'a [u8]),
+    /// 02: "a group with an empty name bears the lot's label, and so does an
+    /// element before any GR."
+    Label(&'a [u8]),
+}
+
+impl<'a> Name<'a> {
+    pub fn bytes(self) -> &'a [u8] {
+        match self {
+            Name::Group(bytes) | Name::Label(bytes) => bytes,
+        }
+    }
+}
+
 /// What the library exports, as include/brundhal.h declares it.
 mod raw {
-    use super::{Address, Bounds, Inspection};
+    use super::{Address, Bounds, Inspection, Written, SLIP_BYTES};
 
     #[repr(C)]
     pub struct Move {
@@ -106,8 +164,17 @@ mod raw {
         pub number: u32,
         pub nodes: u32,
         pub elements: u32,
-        pub label_at: u32,
-        pub label_len: u32,
+        pub groups: u32,
+        pub names: u32,
+        pub start: u32,
+        pub len: u32,
+    }
+
+    #[repr(C)]
+    pub struct Name {
+        pub grouped: u32,
+        pub start: usize,
+        pub len: usize,
     }
 
     extern "C" {
@@ -132,7 +199,42 @@ mod raw {
             nodes_len: usize,
             elements: *mut u32,
             elements_len: usize,
+            names: *mut u8,
+            names_len: usize,
+            lengths: *mut u32,
+            lengths_len: usize,
+            befores: *mut u32,
+            befores_len: usize,
         ) -> Lot;
+        pub fn brundhal_write_lot(
+            label: *const u8,
+            label_len: usize,
+            nodes: *const i32,
+            nodes_len: usize,
+            elements: *const u32,
+            elements_len: usize,
+            names: *const u8,
+            names_len: usize,
+            lengths: *const u32,
+            lengths_len: usize,
+            befores: *const u32,
+            befores_len: usize,
+            out: *mut u8,
+            out_len: usize,
+        ) -> Written;
+        pub fn brundhal_name(
+            label: *const u8,
+            label_len: usize,
+            names: *const u8,
+            names_len: usize,
+            lengths: *const u32,
+            lengths_len: usize,
+            befores: *const u32,
+            befores_len: usize,
+            element: u32,
+        ) -> Name;
+        pub fn brundhal_slip(file: *const u8, file_len: usize, out: *mut [u8; SLIP_BYTES])
+            -> usize;
     }
 }
 
@@ -175,14 +277,19 @@ pub fn stamp(answer: Inspection) -> Stamp {
 }
 
 /// Reads a lot file into lent space: three words a node, eight an element, both
-/// ready for `inspect`.
+/// ready for `inspect`; and its groups, ready for `name_of` and `write_lot`.
 ///
-/// An accepted lot has its nodes and elements written from the front, and the
-/// space past them untouched; a refused one has nothing written.
-pub fn read_lot<'a>(file: &'a [u8], nodes: &mut [i32], elements: &mut [u32]) -> Lot<'a> {
-    // Three slices that are borrowed for the call, with their own lengths: the
-    // library reads the first and writes the other two, each inside its length.
-    let raw::Lot { number, nodes, elements, label_at, label_len } = unsafe {
+/// An accepted lot has its nodes, elements and groups written from the front, and
+/// the space past them untouched; a refused one has nothing written.
+pub fn read_lot<'a>(
+    file: &'a [u8],
+    nodes: &mut [i32],
+    elements: &mut [u32],
+    groups: GroupSpace,
+) -> Lot<'a> {
+    // Slices that are borrowed for the call, with their own lengths: the library
+    // reads the first and writes the other five, each inside its length.
+    let raw::Lot { number, nodes, elements, groups, names, start, len } = unsafe {
         raw::brundhal_read_lot(
             file.as_ptr(),
             file.len(),
@@ -190,10 +297,82 @@ pub fn read_lot<'a>(file: &'a [u8], nodes: &mut [i32], elements: &mut [u32]) -> 
             nodes.len(),
             elements.as_mut_ptr(),
             elements.len(),
+            groups.names.as_mut_ptr(),
+            groups.names.len(),
+            groups.lengths.as_mut_ptr(),
+            groups.lengths.len(),
+            groups.befores.as_mut_ptr(),
+            groups.befores.len(),
         )
     };
-    let label = &file[label_at as usize..][..label_len as usize];
-    Lot { number, nodes, elements, label }
+    let label = &file[start as usize..][..len as usize];
+    Lot { number, nodes, elements, groups, names, label }
+}
+
+/// Writes a lot file into lent space: a label, three words a node, eight an
+/// element, and groups.
+///
+/// An accepted lot has its file written from the front, and the space past it
+/// untouched; a refused one has nothing written.
+pub fn write_lot(
+    label: &[u8],
+    nodes: &[i32],
+    elements: &[u32],
+    groups: Groups,
+    out: &mut [u8],
+) -> Written {
+    // Slices that are borrowed for the call, with their own lengths: the library
+    // reads the first six and writes the last, inside its length.
+    unsafe {
+        raw::brundhal_write_lot(
+            label.as_ptr(),
+            label.len(),
+            nodes.as_ptr(),
+            nodes.len(),
+            elements.as_ptr(),
+            elements.len(),
+            groups.names.as_ptr(),
+            groups.names.len(),
+            groups.lengths.as_ptr(),
+            groups.lengths.len(),
+            groups.befores.as_ptr(),
+            groups.befores.len(),
+            out.as_mut_ptr(),
+            out.len(),
+        )
+    }
+}
+
+/// The name that an element, counted from 0, bears in a lot with this label and
+/// these groups.
+pub fn name_of<'a>(label: &'a [u8], groups: Groups<'a>, element: u32) -> Name<'a> {
+    // Slices that are borrowed for the call, with their own lengths, and only read.
+    let raw::Name { grouped, start, len } = unsafe {
+        raw::brundhal_name(
+            label.as_ptr(),
+            label.len(),
+            groups.names.as_ptr(),
+            groups.names.len(),
+            groups.lengths.as_ptr(),
+            groups.lengths.len(),
+            groups.befores.as_ptr(),
+            groups.befores.len(),
+            element,
+        )
+    };
+    match grouped {
+        0 => Name::Label(&label[start..][..len]),
+        1 => Name::Group(&groups.names[start..][..len]),
+        other => unreachable!("the library's name says 0 or 1, not {other}"),
+    }
+}
+
+/// Prints the slip of a lot file to the front of lent space, and answers its
+/// length; the space past it is untouched.
+pub fn slip(file: &[u8], out: &mut [u8; SLIP_BYTES]) -> usize {
+    // A slice with its own length, borrowed for the call and only read, and
+    // `SLIP_BYTES` bytes that are written.
+    unsafe { raw::brundhal_slip(file.as_ptr(), file.len(), out) }
 }
 
 impl Address {
@@ -226,97 +405,5 @@ impl From<raw::Move> for Moved {
             1 => Moved::To(address),
             other => unreachable!("the library's move says 0 or 1, not {other}"),
         }
-    }
-}
-
-#[cfg(test)]
-mod tests {
-    use super::*;
-    use std::mem::{align_of, offset_of, size_of};
-
-    /// The layout that include/brundhal.h declares.
-    #[test]
-    fn layout() {
-        assert_eq!((size_of::<Inspection>(), align_of::<Inspection>()), (20, 4));
-        assert_eq!((size_of::<Bounds>(), align_of::<Bounds>()), (24, 8));
-        assert_eq!((offset_of!(Bounds, low), offset_of!(Bounds, high)), (8, 16));
-        assert_eq!((size_of::<Address>(), align_of::<Address>()), (16, 4));
-        assert_eq!((size_of::<raw::Move>(), align_of::<raw::Move>()), (20, 4));
-        assert_eq!((size_of::<raw::Lot>(), align_of::<raw::Lot>()), (20, 4));
-    }
-
-    #[test]
-    fn empty_runs_are_taken() {
-        assert_eq!(inspect(&[], &[], 3, &mut []), Inspection::default());
-        assert_eq!(inspect(&[], &[], 4, &mut []).number, 1);
-        assert_eq!(inspect(&[0], &[], 3, &mut []).number, 2);
-        assert_eq!(inspect(&[], &[0], 3, &mut []).number, 3);
-        assert_eq!(inspect(&[], &[], 3, &mut [0]).number, 4);
-        assert_eq!(read_lot(&[], &mut [], &mut []).number, 21);
-        assert_eq!(read_lot(b"LB\0\0EN\0\0", &mut [], &mut []).number, 0);
-    }
-
-    #[test]
-    fn moves_of_the_whole() {
-        let child = Address { level: 1, a: 1, b: 1, c: 0 };
-        assert_eq!(Address::WHOLE.child(3), Moved::To(child));
-        assert_eq!(Address::WHOLE.corner(3), Moved::To(Address { level: 0, ..child }));
-        assert_eq!(child.parent(), Moved::To(Address::WHOLE));
-        assert_eq!(Address::WHOLE.parent(), Moved::Not(Address::WHOLE));
-        assert_eq!(Address::WHOLE.child(9), Moved::Not(Address::WHOLE));
-    }
-
-    #[test]
-    fn bounds_of_one_point() {
-        assert_eq!(bounds(&[5; 24], 3), Bounds::default());
-        assert_eq!(bounds(&[4097; 24], 3), Bounds { number: 6, low: 0, high: 0 });
-        assert_eq!(bounds(&[4097; 24], 4), Bounds { number: 1, low: 0, high: 0 });
-    }
-
-    #[test]
-    fn stamps() {
-        assert_eq!(stamp(Inspection::default()), Stamp::Sound);
-        assert_eq!(stamp(Inspection { undecided: 1, ..Inspection::default() }), Stamp::Sound);
-        assert_eq!(stamp(Inspection { invalid: 1, ..Inspection::default() }), Stamp::Faulty);
-        assert_eq!(stamp(Inspection { refused: 1, ..Inspection::default() }), Stamp::Faulty);
-        assert_eq!(stamp(Inspection { number: 4, ..Inspection::default() }), Stamp::Faulty);
-    }
-
-    /// A label, one node (1, -2, 3) and no elements.
-    const LOT: &[u8] = b"LB\x02\0P7ND\x0C\0\x01\0\0\0\xFE\xFF\xFF\xFF\x03\0\0\0EN\0\0";
-
-    #[test]
-    fn lot_with_space_to_spare() {
-        let (mut nodes, mut elements) = ([7; 5], [7; 8]);
-        let lot = read_lot(LOT, &mut nodes, &mut elements);
-        assert_eq!(lot, Lot { number: 0, nodes: 1, elements: 0, label: b"P7" });
-        assert_eq!(lot.label.as_ptr_range(), LOT[4..6].as_ptr_range());
-        assert_eq!((nodes, elements), ([1, -2, 3, 7, 7], [7; 8]));
-    }
-
-    #[test]
-    fn refused_lots_write_nothing() {
-        let cut_short = &LOT[..LOT.len() - 1];
-        let mut nodes = [7; 5];
-        for (file, space, number) in [(LOT, 2, 27), (cut_short, 5, 21)] {
-            let lot = read_lot(file, &mut nodes[..space], &mut []);
-            assert_eq!(lot, Lot { number, nodes: 0, elements: 0, label: b"" });
-            assert_eq!(nodes, [7; 5]);
-        }
-    }
-
-    /// No good lot is refused for want of space in space of these lengths.
-    #[test]
-    fn space_for_every_lot() {
-        let node = &LOT[6..22];
-        let element = [b"HX\x20\0", &[0; 32][..]].concat();
-        let file = |nodes: usize, elements: usize| {
-            [b"LB\0\0", &node.repeat(nodes)[..], &element.repeat(elements), b"EN\0\0"].concat()
-        };
-        let (mut nodes, mut elements) = ([0; LOT_NODE_WORDS], [0; LOT_ELEMENT_WORDS]);
-        let mut read = |file: &[u8]| read_lot(file, &mut nodes, &mut elements).number;
-        assert_eq!((read(&file(4095, 0)), read(&file(4096, 0))), (0, 20));
-        assert_eq!((read(&file(0, 1000)), read(&file(0, 1001))), (0, 26));
-        assert_eq!(file(4095, 0).len(), LOT_BYTES - 8);
     }
 }

@@ -1,10 +1,16 @@
-//! One question to both programs: their answers word by word, and what 01 says
-//! over depths.
+//! One question to both programs: their answers word by word, what 01 says over
+//! depths, and what 02 says of writing and reading.
 
-use crate::program::{Answer, AtDepth, Lot, Program, PATTERN};
+use crate::program::{Answer, AtDepth, Inspects, Program};
 use crate::question::Question;
+use lent::{Fenced, FENCE};
 use second::specimens::Shaker;
 use std::fmt;
+
+mod lent;
+mod lots;
+
+pub use lots::ample_space;
 
 /// The two programs, or one program and the rules, do not agree.
 #[derive(Clone, Debug, PartialEq, Eq)]
@@ -33,45 +39,31 @@ struct Words {
     name: Box<dyn Fn(usize) -> String>,
 }
 
-/// Words on both sides of lent space that must stay as they were.
-const FENCE: usize = 8;
-
-/// Different in each word, so that a word moved from elsewhere shows too.
-fn pattern(place: usize) -> i64 {
-    PATTERN ^ ((place as i64) << 8)
-}
-
 // ----------------------------------------------------------------- answers --
 
 /// An inspection's answer, its stamp, and the report space with its fences.
 struct Inspected {
     answer: Answer,
     stamp: u32,
-    space: Vec<i64>,
-}
-
-impl Inspected {
-    fn report(&self) -> &[i64] {
-        &self.space[FENCE..self.space.len() - FENCE]
-    }
+    space: Fenced<i64>,
 }
 
 fn inspected(
-    program: &dyn Program,
+    program: &dyn Inspects,
     coordinates: &[i32],
     indices: &[u32],
     depth: u32,
     words: usize,
 ) -> Inspected {
-    let mut space: Vec<i64> = (0..words + 2 * FENCE).map(pattern).collect();
-    let answer = program.inspect(coordinates, indices, depth, &mut space[FENCE..FENCE + words]);
+    let mut space = Fenced::new(words);
+    let answer = program.inspect(coordinates, indices, depth, space.lent());
     Inspected { answer, stamp: program.stamp(answer), space }
 }
 
 fn inspected_words(seen: &Inspected) -> Words {
     let mut words: Vec<i64> = seen.answer.iter().copied().map(i64::from).collect();
     words.push(i64::from(seen.stamp));
-    words.extend(&seen.space);
+    words.extend(seen.space.whole());
     Words { words, name: Box::new(inspected_name) }
 }
 
@@ -128,55 +120,6 @@ fn move_words(answer: [u32; 5]) -> Words {
 
 fn stamp_words(stamp: u32) -> Words {
     Words { words: vec![i64::from(stamp)], name: Box::new(|_| "stamp".to_string()) }
-}
-
-const LOT: [&str; 5] =
-    ["number", "number of nodes", "number of elements", "label's place", "label's length"];
-
-/// Where a label stands in the file, by its address; -1 if it is none of the
-/// file's bytes.
-fn place_in(file: &[u8], label: &[u8]) -> i64 {
-    let (file, label) = (file.as_ptr_range(), label.as_ptr_range());
-    if file.start <= label.start && label.end <= file.end {
-        label.start as i64 - file.start as i64
-    } else {
-        -1
-    }
-}
-
-/// What is said of a lot, the lent space with its fences, and the label's bytes.
-fn lot_words(program: &dyn Program, file: &[u8], nodes: usize, elements: usize) -> Words {
-    let mut node_space: Vec<i32> = (0..nodes + 2 * FENCE).map(|at| pattern(at) as i32).collect();
-    let mut element_space: Vec<u32> =
-        (0..elements + 2 * FENCE).map(|at| pattern(at) as u32).collect();
-    let Lot { number, nodes: node_count, elements: element_count, label } = program.read_lot(
-        file,
-        &mut node_space[FENCE..FENCE + nodes],
-        &mut element_space[FENCE..FENCE + elements],
-    );
-    let mut words: Vec<i64> = [number, node_count, element_count].map(i64::from).to_vec();
-    words.extend([place_in(file, label), label.len() as i64]);
-    words.extend(node_space.iter().copied().map(i64::from));
-    words.extend(element_space.iter().copied().map(i64::from));
-    words.extend(label.iter().copied().map(i64::from));
-    Words { words, name: Box::new(move |place| lot_name(place, nodes, elements)) }
-}
-
-fn lot_name(place: usize, nodes: usize, elements: usize) -> String {
-    let spaces = [("node", nodes), ("element", elements)];
-    let Some(mut at) = place.checked_sub(LOT.len()) else {
-        return LOT[place].to_string();
-    };
-    for (what, words) in spaces {
-        if at < words + 2 * FENCE {
-            return match at.checked_sub(FENCE) {
-                Some(at) if at < words => format!("{what} word {at} from 0"),
-                _ => format!("a word beside the {what} space"),
-            };
-        }
-        at -= words + 2 * FENCE;
-    }
-    format!("label byte {at} from 0")
 }
 
 /// The first word that differs, if any.
@@ -263,7 +206,7 @@ fn over_depths_fault(points: Option<&[i32; 24]>, seen: &[AtDepth]) -> Option<Str
 /// Demand 3 for every element of an accepted mesh: its records in the reports
 /// of all depths, and the bounds of its points.
 fn mesh_over_depths_fault(
-    program: &dyn Program,
+    program: &dyn Inspects,
     coordinates: &[i32],
     indices: &[u32],
 ) -> Option<String> {
@@ -273,7 +216,7 @@ fn mesh_over_depths_fault(
         let points = second::points_of(coordinates, element);
         let at_depth = |(depth, mesh): (u32, &Inspected)| AtDepth {
             answer: mesh.answer,
-            record: std::array::from_fn(|word| mesh.report()[8 * number + word]),
+            record: std::array::from_fn(|word| mesh.space.inner()[8 * number + word]),
             // an index that names no node is refusal 5
             bounds: points.map_or((5, 0, 0), |points| program.bounds(&points, depth)),
         };
@@ -288,9 +231,9 @@ fn mesh_over_depths_fault(
 /// Both answers to a question, compared; what the first said is handed back.
 fn compared(
     question: &Question,
-    ask: impl Fn(&dyn Program) -> Words,
-    first: &dyn Program,
-    second: &dyn Program,
+    ask: impl Fn(Program) -> Words,
+    first: Program,
+    second: Program,
 ) -> Result<Vec<i64>, Difference> {
     let answer = ask(first);
     match difference(&answer, &ask(second)) {
@@ -299,64 +242,81 @@ fn compared(
     }
 }
 
-/// Asks both programs; every word of the first one's answer, if they agree and
-/// the rules over depths hold of the first.  They are tested at all depths on
-/// an accepted mesh, an element, and bounds that are not refused.
-pub fn ask(
-    first: &dyn Program,
-    second: &dyn Program,
-    question: &Question,
-) -> Result<Vec<i64>, Difference> {
+/// Asks both programs; every word of the first one's answer, if they agree and the
+/// rules hold of the first.  Those over depths are tested at all depths on an
+/// accepted mesh, an element, and bounds that are not refused; those of reading and
+/// writing on every lot that is read or written.
+pub fn ask(first: Program, second: Program, question: &Question) -> Result<Vec<i64>, Difference> {
     let fault = |what: Option<String>| match what {
         None => Ok(()),
         Some(what) => Err(Difference::new(question, what)),
     };
     match question {
         Question::Inspect { depth, space, coordinates, indices } => {
-            let ask = |program: &dyn Program| {
-                inspected_words(&inspected(program, coordinates, indices, *depth, *space))
+            let ask = |program: Program| {
+                inspected_words(&inspected(program.inspects, coordinates, indices, *depth, *space))
             };
             let words = compared(question, ask, first, second)?;
             if words[0] == 0 {
-                fault(mesh_over_depths_fault(first, coordinates, indices))?;
+                fault(mesh_over_depths_fault(first.inspects, coordinates, indices))?;
             }
             Ok(words)
         }
         Question::Element { depth, points } => {
-            let seen = first.over_depths(points, LARGEST_DEPTH);
+            let seen = first.inspects.over_depths(points, LARGEST_DEPTH);
             let asked = &seen[..seen.len().min(*depth as usize + 1)];
-            let others = second.over_depths(points, *depth);
+            let others = second.inspects.over_depths(points, *depth);
             fault(difference(&over_depths_words(asked), &over_depths_words(&others)))?;
             fault(over_depths_fault(Some(points), &seen))?;
             Ok(over_depths_words(&seen).words)
         }
         Question::Bounds { depth, points } => {
-            let ask = |program: &dyn Program| bounds_words(program.bounds(points, *depth));
+            let ask = |program: Program| bounds_words(program.inspects.bounds(points, *depth));
             let words = compared(question, ask, first, second)?;
             if words[0] == 0 {
-                let seen = first.over_depths(points, LARGEST_DEPTH);
+                let seen = first.inspects.over_depths(points, LARGEST_DEPTH);
                 fault(over_depths_fault(Some(points), &seen))?;
             }
             Ok(words)
         }
         Question::Child { address, n } => {
-            let ask = |program: &dyn Program| move_words(program.child(*address, *n));
+            let ask = |program: Program| move_words(program.inspects.child(*address, *n));
             compared(question, ask, first, second)
         }
         Question::Corner { address, n } => {
-            let ask = |program: &dyn Program| move_words(program.corner(*address, *n));
+            let ask = |program: Program| move_words(program.inspects.corner(*address, *n));
             compared(question, ask, first, second)
         }
         Question::Parent { address } => {
-            let ask = |program: &dyn Program| move_words(program.parent(*address));
+            let ask = |program: Program| move_words(program.inspects.parent(*address));
             compared(question, ask, first, second)
         }
         Question::Stamp { answer } => {
-            let ask = |program: &dyn Program| stamp_words(program.stamp(*answer));
+            let ask = |program: Program| stamp_words(program.inspects.stamp(*answer));
             compared(question, ask, first, second)
         }
-        Question::Lot { nodes, elements, file } => {
-            let ask = |program: &dyn Program| lot_words(program, file, *nodes, *elements);
+        Question::Read { space, file } => {
+            let ask = |program: Program| lots::read_words(program.reads, file, *space);
+            let words = compared(question, ask, first, second)?;
+            if words[0] == 0 {
+                fault(lots::not_written_back(first, file, *space))?;
+            }
+            Ok(words)
+        }
+        Question::Write { space, lot } => {
+            let ask = |program: Program| lots::written_words(program.writes, lot, *space);
+            let words = compared(question, ask, first, second)?;
+            if words[0] == 0 {
+                fault(lots::not_read_back(first, lot, *space))?;
+            }
+            Ok(words)
+        }
+        Question::Name { element, label, groups } => {
+            let ask = |program: Program| lots::name_words(program.names, label, groups, *element);
+            compared(question, ask, first, second)
+        }
+        Question::Slip { file } => {
+            let ask = |program: Program| lots::slip_words(program.prints, file);
             compared(question, ask, first, second)
         }
     }
@@ -371,4 +331,9 @@ pub fn last_record(words: &[i64]) -> [i64; 8] {
 /// The report of a mesh of one element, from its words.
 pub fn only_record(words: &[i64]) -> &[i64] {
     &words[ANSWER.len() + FENCE..words.len() - FENCE]
+}
+
+/// The text of a slip, from its words.
+pub fn slip_text(words: &[i64]) -> Vec<u8> {
+    words[lots::SLIP_HEAD..].iter().map(|&byte| byte as u8).collect()
 }

@@ -287,7 +287,7 @@ fn bad_index(shaker: &mut Shaker, nodes: usize) -> u32 {
 }
 
 /// Eight indices: eight nodes in a row, often; any nodes; with bad ones.
-fn element_indices(shaker: &mut Shaker, nodes: usize) -> [u32; 8] {
+pub(crate) fn element_indices(shaker: &mut Shaker, nodes: usize) -> [u32; 8] {
     let blocks = nodes as i64 / 8;
     let mut indices = if blocks > 0 && !once_in(shaker, 6) {
         let block = shaker.between(0, blocks - 1) as u32;

@@ -1,19 +1,19 @@
 //! Runs the built library beside the second program.
 //!
 //! `compare SEED COUNT`: the whole run, with COUNT random elements.
-//! `compare lots SEED COUNT`: its lot files alone.
+//! `compare lots SEED COUNT`: its lots alone.
 //! `compare again`: the questions on standard input, one a line, as a
 //! difference prints them; the answer of each is printed.
 
 #![deny(warnings)]
 
-use compare::program::{Product, Second};
+use compare::program::{PRODUCT, SECOND};
 use compare::question::Question;
 use compare::run::{run, run_lots, Pair, Plan};
 use std::io;
 use std::process::ExitCode;
 
-const PAIR: Pair = Pair { first: &Product, second: &Second };
+const PAIR: Pair = Pair { first: PRODUCT, second: SECOND };
 
 fn again() -> Result<(), String> {
     for line in io::stdin().lines() {
@@ -36,11 +36,11 @@ fn say(line: String) {
 }
 
 fn whole(seed: &str, count: &str) -> Result<(), String> {
-    run(PAIR, plan(seed, count)?, say).map_err(|found| found.to_string())
+    run(PAIR, plan(seed, count)?, &say).map_err(|found| found.to_string())
 }
 
 fn lots(seed: &str, count: &str) -> Result<(), String> {
-    run_lots(PAIR, plan(seed, count)?, say).map_err(|found| found.to_string())
+    run_lots(PAIR, plan(seed, count)?, &say).map_err(|found| found.to_string())
 }
 
 fn main() -> ExitCode {

@@ -1,6 +1,8 @@
 //! The two programs behind one face.
 
-use second::lot::{self, ELEMENT_WORDS, NODE_WORDS};
+use brundhal::SLIP_BYTES;
+use second::lot::writing::write_lot;
+use second::lot::{read_lot, Groups, Lot, ELEMENT_WORDS, NODE_WORDS};
 use second::Limits;
 
 /// Every word of an inspection's answer: number, valid, invalid, undecided,
@@ -22,18 +24,43 @@ pub struct AtDepth {
     pub bounds: (u32, i64, i64),
 }
 
-/// What is said of a lot file: 0 or the number of the refusal, the numbers of
-/// nodes and of elements, and the label, a part of the file that was handed in.
-#[derive(Clone, Copy, Debug, PartialEq, Eq)]
-pub struct Lot<'a> {
-    pub number: u32,
-    pub nodes: u32,
-    pub elements: u32,
-    pub label: &'a [u8],
+/// Lent space for a lot that is read.
+pub struct Lent<'a> {
+    pub nodes: &'a mut [i32],
+    pub elements: &'a mut [u32],
+    pub names: &'a mut [u8],
+    pub lengths: &'a mut [u32],
+    pub befores: &'a mut [u32],
 }
 
-/// A program that answers the services of 01 and 02.
-pub trait Program: Sync {
+/// What is said of a lot file: 0 or the number of the refusal; the numbers of
+/// nodes, of elements and of groups, and the bytes of the names; and the label, a
+/// part of the file that was handed in.
+pub type ReadLot<'a> = brundhal::Lot<'a>;
+
+/// What is said of a lot that is written: 0 or the number of the refusal, and the
+/// file's length.
+pub type Written = brundhal::Written;
+
+/// An element's name, a part of what was handed in.
+pub type Name<'a> = brundhal::Name<'a>;
+
+/// Space for a slip.
+pub type SlipSpace = [u8; SLIP_BYTES];
+
+/// A program that answers the services of 01 and 02.  One that is wrong in one
+/// service is another program with that service exchanged.
+#[derive(Clone, Copy)]
+pub struct Program<'a> {
+    pub inspects: &'a dyn Inspects,
+    pub reads: &'a dyn Reads,
+    pub writes: &'a dyn Writes,
+    pub names: &'a dyn Names,
+    pub prints: &'a dyn Prints,
+}
+
+/// The services of 01.
+pub trait Inspects: Sync {
     fn inspect(
         &self,
         coordinates: &[i32],
@@ -46,7 +73,6 @@ pub trait Program: Sync {
     fn child(&self, address: Address, n: u32) -> Move;
     fn corner(&self, address: Address, n: u32) -> Move;
     fn parent(&self, address: Address) -> Move;
-    fn read_lot<'a>(&self, file: &'a [u8], nodes: &mut [i32], elements: &mut [u32]) -> Lot<'a>;
 
     /// Eight points in range, at every depth from 0 to `depth`.
     fn over_depths(&self, points: &[i32; 24], depth: u32) -> Vec<AtDepth> {
@@ -57,6 +83,22 @@ pub trait Program: Sync {
         };
         (0..=depth).map(at_depth).collect()
     }
+}
+
+pub trait Reads: Sync {
+    fn read_lot<'a>(&self, file: &'a [u8], lent: Lent) -> ReadLot<'a>;
+}
+
+pub trait Writes: Sync {
+    fn write_lot(&self, lot: &Lot, out: &mut [u8]) -> Written;
+}
+
+pub trait Names: Sync {
+    fn name_of<'a>(&self, label: &'a [u8], groups: &'a Groups, element: u32) -> Name<'a>;
+}
+
+pub trait Prints: Sync {
+    fn slip(&self, file: &[u8], out: &mut SlipSpace) -> usize;
 }
 
 /// The indices of an element that has eight nodes of its own.
@@ -71,6 +113,14 @@ pub const PATTERN: i64 = 0x5A5A_A5A5_DEAD_0001;
 /// The built library.
 pub struct Product;
 
+pub const PRODUCT: Program = Program {
+    inspects: &Product,
+    reads: &Product,
+    writes: &Product,
+    names: &Product,
+    prints: &Product,
+};
+
 fn moved(answer: brundhal::Moved) -> Move {
     let (made, to) = match answer {
         brundhal::Moved::To(to) => (1, to),
@@ -83,7 +133,12 @@ fn place([level, a, b, c]: Address) -> brundhal::Address {
     brundhal::Address { level, a, b, c }
 }
 
-impl Program for Product {
+fn lent_groups(groups: &Groups) -> brundhal::Groups<'_> {
+    let Groups { names, lengths, befores } = groups;
+    brundhal::Groups { names, lengths, befores }
+}
+
+impl Inspects for Product {
     fn inspect(
         &self,
         coordinates: &[i32],
@@ -120,11 +175,32 @@ impl Program for Product {
     fn parent(&self, address: Address) -> Move {
         moved(place(address).parent())
     }
+}
 
-    fn read_lot<'a>(&self, file: &'a [u8], nodes: &mut [i32], elements: &mut [u32]) -> Lot<'a> {
-        let brundhal::Lot { number, nodes, elements, label } =
-            brundhal::read_lot(file, nodes, elements);
-        Lot { number, nodes, elements, label }
+impl Reads for Product {
+    fn read_lot<'a>(&self, file: &'a [u8], lent: Lent) -> ReadLot<'a> {
+        let Lent { nodes, elements, names, lengths, befores } = lent;
+        let groups = brundhal::GroupSpace { names, lengths, befores };
+        brundhal::read_lot(file, nodes, elements, groups)
+    }
+}
+
+impl Writes for Product {
+    fn write_lot(&self, lot: &Lot, out: &mut [u8]) -> Written {
+        let Lot { label, nodes, elements, groups } = lot;
+        brundhal::write_lot(label, nodes, elements, lent_groups(groups), out)
+    }
+}
+
+impl Names for Product {
+    fn name_of<'a>(&self, label: &'a [u8], groups: &'a Groups, element: u32) -> Name<'a> {
+        brundhal::name_of(label, lent_groups(groups), element)
+    }
+}
+
+impl Prints for Product {
+    fn slip(&self, file: &[u8], out: &mut SlipSpace) -> usize {
+        brundhal::slip(file, out)
     }
 }
 
@@ -132,6 +208,9 @@ impl Program for Product {
 
 /// The second program, at 01's limits.
 pub struct Second;
+
+pub const SECOND: Program =
+    Program { inspects: &Second, reads: &Second, writes: &Second, names: &Second, prints: &Second };
 
 fn said((to, made): (second::Address, bool)) -> Move {
     [u32::from(made), to.level, to.a, to.b, to.c]
@@ -158,7 +237,17 @@ fn held(bound: i128) -> i64 {
     i64::try_from(bound).expect("a bound of points in range fits 64 bits")
 }
 
-impl Program for Second {
+/// An answer laid at the front of lent space.
+pub fn lay<T: Copy>(answer: &[T], space: &mut [T]) {
+    space[..answer.len()].copy_from_slice(answer);
+}
+
+/// What is said of a lot file that is refused.
+pub fn refused_lot(file: &[u8], number: u32) -> ReadLot<'_> {
+    ReadLot { number, nodes: 0, elements: 0, groups: 0, names: 0, label: &file[..0] }
+}
+
+impl Inspects for Second {
     fn inspect(
         &self,
         coordinates: &[i32],
@@ -196,22 +285,6 @@ impl Program for Second {
         said(cube(address).parent(&Limits::base()))
     }
 
-    fn read_lot<'a>(&self, file: &'a [u8], nodes: &mut [i32], elements: &mut [u32]) -> Lot<'a> {
-        match lot::read_lot(file, nodes.len(), elements.len()) {
-            Err(number) => Lot { number, nodes: 0, elements: 0, label: &file[..0] },
-            Ok(lot) => {
-                nodes[..lot.nodes.len()].copy_from_slice(&lot.nodes);
-                elements[..lot.elements.len()].copy_from_slice(&lot.elements);
-                Lot {
-                    number: 0,
-                    nodes: (lot.nodes.len() / NODE_WORDS) as u32,
-                    elements: (lot.elements.len() / ELEMENT_WORDS) as u32,
-                    label: &file[lot.label],
-                }
-            }
-        }
-    }
-
     /// Each level looked at once, for all depths.
     fn over_depths(&self, points: &[i32; 24], depth: u32) -> Vec<AtDepth> {
         let levels = second::over_depths(&points.map(i64::from), depth)
@@ -222,5 +295,59 @@ impl Program for Second {
             bounds: (0, held(low), held(high)),
         };
         levels.into_iter().map(at_depth).collect()
+    }
+}
+
+impl Reads for Second {
+    fn read_lot<'a>(&self, file: &'a [u8], lent: Lent) -> ReadLot<'a> {
+        let Lent { nodes, elements, names, lengths, befores } = lent;
+        let space = [nodes.len(), elements.len(), names.len(), lengths.len(), befores.len()];
+        let reading = match read_lot(file, space) {
+            Ok(reading) => reading,
+            Err(number) => return refused_lot(file, number),
+        };
+        let Lot { label, groups, .. } = &reading.lot;
+        lay(&reading.lot.nodes, nodes);
+        lay(&reading.lot.elements, elements);
+        lay(&groups.names, names);
+        lay(&groups.lengths, lengths);
+        lay(&groups.befores, befores);
+        ReadLot {
+            number: 0,
+            nodes: (reading.lot.nodes.len() / NODE_WORDS) as u32,
+            elements: (reading.lot.elements.len() / ELEMENT_WORDS) as u32,
+            groups: groups.lengths.len() as u32,
+            names: groups.names.len() as u32,
+            label: &file[reading.label_at..][..label.len()],
+        }
+    }
+}
+
+impl Writes for Second {
+    fn write_lot(&self, lot: &Lot, out: &mut [u8]) -> Written {
+        match write_lot(lot, out.len()) {
+            Err(number) => Written { number, len: 0 },
+            Ok(file) => {
+                lay(&file, out);
+                Written { number: 0, len: file.len() as u32 }
+            }
+        }
+    }
+}
+
+impl Names for Second {
+    fn name_of<'a>(&self, label: &'a [u8], groups: &'a Groups, element: u32) -> Name<'a> {
+        match groups.name_of(element) {
+            Some(place) => Name::Group(&groups.names[place]),
+            None => Name::Label(label),
+        }
+    }
+}
+
+impl Prints for Second {
+    fn slip(&self, file: &[u8], out: &mut SlipSpace) -> usize {
+        let slip = second::slip::slip(file);
+        lay(&slip, out);
+        slip.len()
     }
 }

@@ -1,5 +1,6 @@
 //! What the two programs are asked, as data that can be printed and read back.
 
+use second::lot::{Groups, Lot, Space};
 use std::fmt;
 use std::str::FromStr;
 
@@ -41,10 +42,24 @@ pub enum Question {
     Stamp {
         answer: [u32; 5],
     },
-    /// A lot file, with space of these numbers of words for nodes and elements.
-    Lot {
-        nodes: usize,
-        elements: usize,
+    /// A lot file to read, with lent space of these lengths.
+    Read {
+        space: Space,
+        file: Vec<u8>,
+    },
+    /// A lot to write, with lent space of `space` bytes.
+    Write {
+        space: usize,
+        lot: Lot,
+    },
+    /// The name of an element, counted from 0, with any label and groups.
+    Name {
+        element: u32,
+        label: Vec<u8>,
+        groups: Groups,
+    },
+    /// The slip of a lot file.
+    Slip {
         file: Vec<u8>,
     },
 }
@@ -53,17 +68,27 @@ fn put<T: fmt::Display>(f: &mut fmt::Formatter<'_>, numbers: &[T]) -> fmt::Resul
     numbers.iter().try_for_each(|number| write!(f, " {number}"))
 }
 
-/// One line: a word for the service, then numbers.  A mesh is its depth, its
-/// report space, and each run with its length before it; a lot its two spaces,
-/// and its file likewise.
+/// A run of numbers, with its length before it.
+fn put_run<T: fmt::Display>(f: &mut fmt::Formatter<'_>, run: &[T]) -> fmt::Result {
+    write!(f, " {}", run.len())?;
+    put(f, run)
+}
+
+fn put_groups(f: &mut fmt::Formatter<'_>, groups: &Groups) -> fmt::Result {
+    put_run(f, &groups.names)?;
+    put_run(f, &groups.lengths)?;
+    put_run(f, &groups.befores)
+}
+
+/// One line: a word for the service, then numbers; first those that say how it is
+/// asked, depth, lengths of lent space and the like, then the runs.
 impl fmt::Display for Question {
     fn fmt(&self, f: &mut fmt::Formatter<'_>) -> fmt::Result {
         match self {
             Question::Inspect { depth, space, coordinates, indices } => {
-                write!(f, "inspect {depth} {space} {}", coordinates.len())?;
-                put(f, coordinates)?;
-                write!(f, " {}", indices.len())?;
-                put(f, indices)
+                write!(f, "inspect {depth} {space}")?;
+                put_run(f, coordinates)?;
+                put_run(f, indices)
             }
             Question::Element { depth, points } => {
                 write!(f, "element {depth}")?;
@@ -89,9 +114,26 @@ impl fmt::Display for Question {
                 write!(f, "stamp")?;
                 put(f, answer)
             }
-            Question::Lot { nodes, elements, file } => {
-                write!(f, "lot {nodes} {elements} {}", file.len())?;
-                put(f, file)
+            Question::Read { space, file } => {
+                write!(f, "read")?;
+                put(f, space)?;
+                put_run(f, file)
+            }
+            Question::Write { space, lot } => {
+                write!(f, "write {space}")?;
+                put_run(f, &lot.label)?;
+                put_run(f, &lot.nodes)?;
+                put_run(f, &lot.elements)?;
+                put_groups(f, &lot.groups)
+            }
+            Question::Name { element, label, groups } => {
+                write!(f, "name {element}")?;
+                put_run(f, label)?;
+                put_groups(f, groups)
+            }
+            Question::Slip { file } => {
+                write!(f, "slip")?;
+                put_run(f, file)
             }
         }
     }
@@ -118,6 +160,19 @@ impl Numbers<'_> {
         (0..length).map(|_| self.one()).collect()
     }
 
+    fn groups(&mut self) -> Option<Groups> {
+        Some(Groups { names: self.run()?, lengths: self.run()?, befores: self.run()? })
+    }
+
+    fn lot(&mut self) -> Option<Lot> {
+        Some(Lot {
+            label: self.run()?,
+            nodes: self.run()?,
+            elements: self.run()?,
+            groups: self.groups()?,
+        })
+    }
+
     fn question(&mut self) -> Option<Question> {
         let question = match self.0.next()? {
             "inspect" => Question::Inspect {
@@ -132,7 +187,12 @@ impl Numbers<'_> {
             "corner" => Question::Corner { n: self.one()?, address: self.array()? },
             "parent" => Question::Parent { address: self.array()? },
             "stamp" => Question::Stamp { answer: self.array()? },
-            "lot" => Question::Lot { nodes: self.one()?, elements: self.one()?, file: self.run()? },
+            "read" => Question::Read { space: self.array()?, file: self.run()? },
+            "write" => Question::Write { space: self.one()?, lot: self.lot()? },
+            "name" => {
+                Question::Name { element: self.one()?, label: self.run()?, groups: self.groups()? }
+            }
+            "slip" => Question::Slip { file: self.run()? },
             _ => return None,
         };
         self.0.next().is_none().then_some(question)

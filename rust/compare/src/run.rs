@@ -3,7 +3,7 @@
 use crate::cases::{cases, figures, not_as_printed, rounded};
 use crate::check::{ask, last_record, Difference, POINTS_A_LEVEL};
 use crate::draw::{self, Kind, KINDS};
-use crate::lots;
+use crate::lots::{numbered, Service, NAMING, PRINTING, READING, WRITING};
 use crate::program::{Program, IN_ORDER};
 use crate::question::Question;
 use second::specimens::Shaker;
@@ -20,22 +20,35 @@ pub struct Plan {
     pub elements: usize,
     pub meshes: usize,
     pub moves: usize,
-    /// Random lots of each kind.
-    pub lots: usize,
+    /// Of each kind of random lot files, lots to write, elements to name, and lot
+    /// files to print.
+    pub files: usize,
+    pub writes: usize,
+    pub names: usize,
+    pub slips: usize,
 }
 
 impl Plan {
-    /// Meshes, moves and lots in proportion to a number of elements.
+    /// All else in proportion to a number of elements.
     pub fn of(seed: u64, elements: usize) -> Plan {
-        Plan { seed, elements, meshes: elements / 50, moves: elements, lots: 3 * elements }
+        Plan {
+            seed,
+            elements,
+            meshes: elements / 50,
+            moves: elements,
+            files: elements * 5 / 2,
+            writes: elements,
+            names: elements,
+            slips: elements / 50,
+        }
     }
 }
 
 /// The two programs that are run side by side.
 #[derive(Clone, Copy)]
 pub struct Pair<'a> {
-    pub first: &'a dyn Program,
-    pub second: &'a dyn Program,
+    pub first: Program<'a>,
+    pub second: Program<'a>,
 }
 
 impl Pair<'_> {
@@ -285,60 +298,79 @@ fn elements(pair: Pair, plan: Plan) -> Result<String, Difference> {
     Ok(format!("{} elements, all {OVER_DEPTHS}, {}", plan.elements, in_words(&tally)))
 }
 
-fn numbered(number: i64) -> String {
-    format!("number {number}")
-}
-
 fn in_words(tally: &Tally) -> String {
     let parts: Vec<String> = tally.iter().map(|(what, times)| format!("{what} {times}")).collect();
     parts.join("; ")
 }
 
-/// One lot of a corpus.
-fn count_lot(pair: Pair, lot: &Question, tally: &mut Tally) -> Result<(), Difference> {
-    count(tally, numbered(pair.ask(lot)?[0]));
+/// One question of a service, counted.
+fn count_met(
+    pair: Pair,
+    service: &Service,
+    question: &Question,
+    tally: &mut Tally,
+) -> Result<(), Difference> {
+    let words = pair.ask(question)?;
+    (service.met)(&words).into_iter().for_each(|what| count(tally, what));
     Ok(())
 }
 
-/// What was met in some lots, said in a line.
-fn lots_in_words(tally: &Tally, start: Instant) -> String {
+/// What was met in so many questions, said in a line.
+fn met_in_words(questions: usize, tally: &Tally, start: Instant) -> String {
     let seconds = start.elapsed().as_secs_f64();
-    format!("{} lots, {} ({seconds:.1} s)", tally.values().sum::<u64>(), in_words(tally))
+    format!("{questions} questions, {} ({seconds:.1} s)", in_words(tally))
 }
 
-/// Lot files, corpus by corpus.  Among them every answer's number is met: 0 and
-/// 20 to 27.
-pub fn run_lots(pair: Pair, plan: Plan, say: impl Fn(String)) -> Result<(), Difference> {
+/// The questions to one service, corpus by corpus; among them all is met that has
+/// to be.  `part` tells its draws from those of the others.
+pub fn run_service(
+    pair: Pair,
+    plan: Plan,
+    service: &Service,
+    part: u64,
+    say: &dyn Fn(String),
+) -> Result<(), Difference> {
     let begun = Instant::now();
-    let mut whole = Tally::new();
-    let mut done = |name: &str, tally: Tally, start: Instant| {
-        say(format!("lots, {name}: {}", lots_in_words(&tally, start)));
+    let (mut asked, mut whole) = (0, Tally::new());
+    let mut done = |name: &str, questions: usize, tally: Tally, start: Instant| {
+        say(format!("{}, {name}: {}", service.name, met_in_words(questions, &tally, start)));
+        asked += questions;
         add(&mut whole, tally);
     };
-    for (name, lots) in lots::listed() {
+    for (name, questions) in (service.listed)() {
         let start = Instant::now();
-        let job = |turn: usize, tally: &mut Tally| count_lot(pair, &lots[turn], tally);
-        done(name, on_two_threads(lots.len(), job)?, start);
+        let job =
+            |turn: usize, tally: &mut Tally| count_met(pair, service, &questions[turn], tally);
+        done(name, questions.len(), on_two_threads(questions.len(), job)?, start);
     }
-    for (part, (name, draw)) in (5..).zip(lots::DRAWN) {
+    let draws = (service.count)(plan);
+    for (kind, (name, draw)) in (0..).zip(service.drawn) {
         let start = Instant::now();
         let job = |turn: usize, tally: &mut Tally| {
-            count_lot(pair, &draw(&mut shaker_for(plan.seed, part, turn)), tally)
+            let mut shaker = shaker_for(plan.seed, part + kind, turn);
+            count_met(pair, service, &draw(&mut shaker), tally)
         };
-        done(name, on_two_threads(plan.lots, job)?, start);
+        done(name, draws, on_two_threads(draws, job)?, start);
     }
-    for number in std::iter::once(0).chain(20..=27) {
-        assert!(whole.contains_key(&numbered(number)), "no lot of number {number} was met");
+    for what in (service.needed)() {
+        assert!(whole.contains_key(&what), "{}: no {what} was met", service.name);
     }
-    say(format!("all lots: {}", lots_in_words(&whole, begun)));
+    say(format!("{}, in all: {}", service.name, met_in_words(asked, &whole, begun)));
     Ok(())
+}
+
+/// Lots: read, and those that are accepted written back; written, and those read
+/// back; their elements named; their slips printed.
+pub fn run_lots(pair: Pair, plan: Plan, say: &dyn Fn(String)) -> Result<(), Difference> {
+    let services = [(5, READING), (10, WRITING), (15, NAMING), (20, PRINTING)];
+    services.iter().try_for_each(|(part, service)| run_service(pair, plan, service, *part, say))
 }
 
 /// One part of a run.
 type Part<'a> = (&'a str, &'a dyn Fn() -> Result<String, Difference>);
 
 /// Everything, part by part; what each came to is said in a line.
-pub fn run(pair: Pair, plan: Plan, say: impl Fn(String)) -> Result<(), Difference> {
+pub fn run(pair: Pair, plan: Plan, say: &dyn Fn(String)) -> Result<(), Difference> {
     say(format!("seed {}", plan.seed));
     let parts: [Part; 7] = [
         ("worked cases", &|| worked_cases(pair)),

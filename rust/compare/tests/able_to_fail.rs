@@ -5,16 +5,37 @@
 
 use compare::cases::cases;
 use compare::check::{ask, Difference};
-use compare::program::{Address, Answer, Lot, Move, Product, Program, Second};
+use compare::lots::Service;
+use compare::program::{
+    Address, Answer, Inspects, Move, Product, Program, Second, PRODUCT, SECOND,
+};
 use compare::question::Question;
-use compare::run::{run, Pair, Plan};
+use compare::run::{run, run_service, Pair, Plan};
+use second::lot::{Groups, Lot};
+use std::fmt::Debug;
 
-#[path = "able_to_fail/lots.rs"]
-mod lots;
+/// What can be wrong, and the list of all of it.
+macro_rules! faults {
+    ($($fault:ident,)*) => {
+        #[derive(Clone, Copy, Debug, PartialEq)]
+        enum Fault {
+            $($fault,)*
+        }
 
-/// What is wrong.
-#[derive(Clone, Copy, Debug, PartialEq)]
-enum Fault {
+        const FAULTS: &[Fault] = &[$(Fault::$fault,)*];
+    };
+}
+
+#[path = "able_to_fail/naming.rs"]
+mod naming;
+#[path = "able_to_fail/printing.rs"]
+mod printing;
+#[path = "able_to_fail/reading.rs"]
+mod reading;
+#[path = "able_to_fail/writing.rs"]
+mod writing;
+
+faults! {
     // records
     OneMoreOpened,
     ValueOffByOne,
@@ -55,42 +76,6 @@ enum Fault {
     SaysUndecided,
     WritesNothing,
 }
-
-const FAULTS: [Fault; 33] = [
-    Fault::OneMoreOpened,
-    Fault::ValueOffByOne,
-    Fault::OtherCorner,
-    Fault::OtherCoefficient,
-    Fault::LevelOfTheDepth,
-    Fault::ZeroIsPositive,
-    Fault::RecordFromBefore,
-    Fault::LastWordNotWritten,
-    Fault::WritesWhenRefused,
-    Fault::CountsExchanged,
-    Fault::CountsWhenRefused,
-    Fault::SpaceBeforeIndices,
-    Fault::OneNodeMore,
-    Fault::OneElementMore,
-    Fault::RangeOneMore,
-    Fault::RangeOneLess,
-    Fault::IndexAtTheCount,
-    Fault::CoordinatesBeforeIndices,
-    Fault::LowOffByOne,
-    Fault::HighOffByOne,
-    Fault::BoundsOfARefusal,
-    Fault::RangeBeforeDepth,
-    Fault::ChildrenExchanged,
-    Fault::CornerPastTheCube,
-    Fault::ParentOfTheWhole,
-    Fault::ChildPastTheDepth,
-    Fault::MovesNoCube,
-    Fault::UndecidedIsFaulty,
-    Fault::RefusedMeshIsSound,
-    Fault::RefusesAll,
-    Fault::SaysValid,
-    Fault::SaysUndecided,
-    Fault::WritesNothing,
-];
 
 /// The second program with one fault.
 struct Wrong(Fault);
@@ -155,7 +140,7 @@ impl Wrong {
     }
 }
 
-impl Program for Wrong {
+impl Inspects for Wrong {
     fn inspect(
         &self,
         coordinates: &[i32],
@@ -256,14 +241,19 @@ impl Program for Wrong {
         }
         Second.parent(address)
     }
-
-    fn read_lot<'a>(&self, file: &'a [u8], nodes: &mut [i32], elements: &mut [u32]) -> Lot<'a> {
-        Second.read_lot(file, nodes, elements)
-    }
 }
 
 fn small_plan() -> Plan {
-    Plan { seed: 5, elements: 1500, meshes: 400, moves: 2000, lots: 2000 }
+    Plan {
+        seed: 5,
+        elements: 1500,
+        meshes: 400,
+        moves: 2000,
+        files: 2000,
+        writes: 2000,
+        names: 2000,
+        slips: 100,
+    }
 }
 
 /// The question that a difference prints finds the same difference again.
@@ -274,17 +264,56 @@ fn finds_it_again(pair: Pair, found: &Difference) {
     assert_eq!(pair.ask_again(&question).as_ref(), Err(found));
 }
 
-/// Each wrong program is caught, and the question that is printed catches it
-/// again.
+/// A wrong program beside the library is caught, and the question that is printed
+/// catches it again.
+fn is_caught(fault: impl Debug, wrong: Program, run: impl Fn(Pair) -> Result<(), Difference>) {
+    let pair = Pair { first: PRODUCT, second: wrong };
+    let Err(found) = run(pair) else {
+        panic!("{fault:?} was not caught");
+    };
+    println!("{fault:?}: {}", found.what);
+    finds_it_again(pair, &found);
+}
+
+/// All that is asked of one service.
+fn ask_service(pair: Pair, service: &Service) -> Result<(), Difference> {
+    run_service(pair, small_plan(), service, 0, &drop)
+}
+
+/// Each wrong version of a service is caught; and the one without a fault is not, so
+/// that what is caught is the fault.  `within` puts a version into a program.
+fn all_are_caught<Fault: Copy + Debug, Wrong>(
+    service: &Service,
+    faults: &[Fault],
+    wrong: fn(Option<Fault>) -> Wrong,
+    within: fn(&Wrong) -> Program,
+) {
+    let right = wrong(None);
+    let pair = Pair { first: PRODUCT, second: within(&right) };
+    assert_eq!(ask_service(pair, service), Ok(()));
+    for &fault in faults {
+        is_caught(fault, within(&wrong(Some(fault))), |pair| ask_service(pair, service));
+    }
+}
+
+/// The same program in both places.
+fn alike(program: Program) -> Pair {
+    Pair { first: program, second: program }
+}
+
+/// A program that is wrong in both places is caught by a rule of 02.
+fn is_caught_alike(program: Program, service: &Service, what: &str) {
+    let found = ask_service(alike(program), service).expect_err("a fault in both places");
+    assert_eq!(found.what, what);
+    finds_it_again(alike(program), &found);
+}
+
 #[test]
 fn every_fault_is_caught() {
-    for fault in FAULTS {
-        let pair = Pair { first: &Product, second: &Wrong(fault) };
-        let Err(found) = run(pair, small_plan(), drop) else {
-            panic!("{fault:?} was not caught");
-        };
-        println!("{fault:?}: {}", found.what);
-        finds_it_again(pair, &found);
+    for &fault in FAULTS {
+        let wrong = Wrong(fault);
+        let program = Program { inspects: &wrong, ..SECOND };
+        is_caught(fault, program, |pair| run(pair, small_plan(), &drop));
     }
 }
 
@@ -304,7 +333,7 @@ enum Unsteady {
 }
 
 /// The library with one such fault.
-impl Program for Unsteady {
+impl Inspects for Unsteady {
     fn inspect(
         &self,
         coordinates: &[i32],
@@ -358,10 +387,11 @@ impl Program for Unsteady {
     fn parent(&self, address: Address) -> Move {
         Product.parent(address)
     }
+}
 
-    fn read_lot<'a>(&self, file: &'a [u8], nodes: &mut [i32], elements: &mut [u32]) -> Lot<'a> {
-        Product.read_lot(file, nodes, elements)
-    }
+/// The library with such a fault, in both places.
+fn unsteady(fault: &Unsteady) -> Pair<'_> {
+    alike(Program { inspects: fault, ..PRODUCT })
 }
 
 /// The points of a worked case.
@@ -395,28 +425,28 @@ fn the_rules_over_depths_are_tested() {
         (Unsteady::NotPositive, Some("C"), "valid, and J is"),
     ];
     for (fault, case, rule) in faults {
-        let pair = Pair { first: &fault, second: &fault };
+        let pair = unsteady(&fault);
         let mut questions = vec![worked_mesh(0)];
         if let Some(points) = case.map(points_of) {
             questions.push(Question::Element { depth: 0, points });
             questions.push(Question::Bounds { depth: 0, points });
         }
         for question in questions {
-            assert!(ask(&Product, &Second, &question).is_ok());
+            assert!(ask(PRODUCT, SECOND, &question).is_ok());
             let found = pair.ask_again(&question).expect_err("a fault over depths");
             println!("{fault:?}: {}", found.what);
             assert!(found.what.contains(rule));
             finds_it_again(pair, &found);
         }
-        assert!(run(pair, small_plan(), drop).is_err());
+        assert!(run(pair, small_plan(), &drop).is_err());
     }
 }
 
 /// So is an answer that holds over depths and is not the one that 01 prints.
 #[test]
 fn what_01_prints_is_tested() {
-    let pair = Pair { first: &Unsteady::OpenedInvented, second: &Unsteady::OpenedInvented };
-    let found = run(pair, small_plan(), drop).expect_err("not as printed");
+    let pair = unsteady(&Unsteady::OpenedInvented);
+    let found = run(pair, small_plan(), &drop).expect_err("not as printed");
     assert!(found.what.contains("in 01"));
     finds_it_again(pair, &found);
 }
@@ -438,16 +468,35 @@ fn questions_read_back() {
         Question::Corner { address: [u32::MAX; 4], n: 0 },
         Question::Parent { address: [2, 3, 3, 3] },
         Question::Stamp { answer: [0, 1, 2, 3, 4] },
-        Question::Lot { nodes: 0, elements: 9, file: vec![] },
-        Question::Lot { nodes: 1, elements: 0, file: b"LB\x01\0~EN\0\0".to_vec() },
+        Question::Read { space: [0, 9, 1, 2, 3], file: vec![] },
+        Question::Read { space: [1, 0, 0, 0, 0], file: b"LB\x01\0~EN\0\0".to_vec() },
+        Question::Write { space: 7, lot: Lot::new(b"~", &[[-1; 3]], &[[7; 8]]).group(1, b"") },
+        Question::Write { space: 99, lot: Lot { nodes: vec![i32::MIN], ..Lot::default() } },
+        Question::Name {
+            element: u32::MAX,
+            label: b"ab".to_vec(),
+            groups: Groups { names: vec![255], lengths: vec![0, 9], befores: vec![u32::MAX] },
+        },
+        Question::Slip { file: vec![0] },
+        Question::Slip { file: b"LB\x01\0~EN\0\0".to_vec() },
     ];
     for question in questions {
         let read: Question = question.to_string().parse().expect("a question");
         assert_eq!(read, question);
-        assert!(ask(&Product, &Second, &question).is_ok());
+        assert!(ask(PRODUCT, SECOND, &question).is_ok());
     }
-    for line in ["", "element 3 1 2", "parent 1 2 3 4 5", "inspect 0 0 1", "lot 0 0 1 256", "sound"]
-    {
+    let lines = [
+        "",
+        "element 3 1 2",
+        "parent 1 2 3 4 5",
+        "inspect 0 0 1",
+        "read 0 0 0 0 0 1 256",
+        "write 0 0 0 0 0 0",
+        "name 0 0 0 0 0 0",
+        "slip 1 -1",
+        "sound",
+    ];
+    for line in lines {
         assert!(line.parse::<Question>().is_err());
     }
 }

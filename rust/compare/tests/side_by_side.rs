@@ -4,7 +4,7 @@
 
 #![deny(warnings)]
 
-use compare::program::{Product, Second};
+use compare::program::{PRODUCT, SECOND};
 use compare::run::{run, Pair, Plan};
 
 fn number(name: &str, otherwise: u64) -> u64 {
@@ -18,8 +18,8 @@ fn number(name: &str, otherwise: u64) -> u64 {
 fn library_and_second_program_agree() {
     let seed = number("BRUNDHAL_SEED", 20_240_601);
     let count = number("BRUNDHAL_COUNT", 100_000) as usize;
-    let pair = Pair { first: &Product, second: &Second };
-    if let Err(difference) = run(pair, Plan::of(seed, count), |line| println!("{line}")) {
+    let pair = Pair { first: PRODUCT, second: SECOND };
+    if let Err(difference) = run(pair, Plan::of(seed, count), &|line| println!("{line}")) {
         panic!("{difference}");
     }
 }

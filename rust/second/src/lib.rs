@@ -5,7 +5,7 @@
 //! coefficients of a cube are fitted to 27 samples, and every cube of every
 //! level up to the depth is looked at.  Nothing is searched or left out, so
 //! it is slow and short.  All arithmetic is on `i128`.  The lot files of document
-//! 02 are read in `lot`.
+//! 02 are read and written in `lot`, and the slip is printed in `slip`.
 //!
 //! Reach.  The numbers below are exact for coordinates up to `REACH_RANGE` and
 //! depths up to `REACH_DEPTH`, far past 01's own limits.  Past the reach every
@@ -19,6 +19,7 @@
 use std::sync::LazyLock;
 
 pub mod lot;
+pub mod slip;
 pub mod specimens;
 
 #[cfg(test)]

@@ -1,9 +1,12 @@
-//! The lot files of document 02, No. 1: a plain reader and a plain writer.
+//! The lot files of document 02, No. 1 and No. 2: what they hold, a plain reader,
+//! and in `writing` a plain writer.
 //!
 //! The reader takes the records in turn and keeps what they hold in memory of
 //! its own; only when nothing is left to refuse is it handed out.
 
 use std::ops::Range;
+
+pub mod writing;
 
 #[cfg(test)]
 mod tests;
@@ -15,7 +18,7 @@ pub const MOST_BYTES: usize = 65_536;
 pub const MOST_ELEMENTS: usize = 1000;
 
 /// 01: "A label or name is 0 to 32 bytes, each 32..126".
-pub const MOST_LABEL_BYTES: usize = 32;
+pub const MOST_NAME_BYTES: usize = 32;
 
 /// The words of a node and of an element: "three signed 32-bit", "eight
 /// unsigned 32-bit".
@@ -23,19 +26,21 @@ pub const NODE_WORDS: usize = 3;
 pub const ELEMENT_WORDS: usize = 8;
 
 /// 02: "Each record has a two-byte mark, a two-byte length and a body".
-const HEAD_BYTES: usize = 4;
+pub const HEAD_BYTES: usize = 4;
 
-/// "LB, the label; ND, a node [...]; HX, an element [...]; EN, empty."
+/// "LB, the label; ND, a node [...]; HX, an element [...]; EN, empty"; and "GR,
+/// a group name".
 #[derive(Clone, Copy, Debug, PartialEq, Eq)]
 pub enum Mark {
     Label,
     Node,
     Element,
+    Group,
     End,
 }
 
 impl Mark {
-    pub const ALL: [Mark; 4] = [Mark::Label, Mark::Node, Mark::Element, Mark::End];
+    pub const ALL: [Mark; 5] = [Mark::Label, Mark::Node, Mark::Element, Mark::Group, Mark::End];
 
     /// The mark as it stands in the file.
     pub fn bytes(self) -> [u8; 2] {
@@ -43,6 +48,7 @@ impl Mark {
             Mark::Label => *b"LB",
             Mark::Node => *b"ND",
             Mark::Element => *b"HX",
+            Mark::Group => *b"GR",
             Mark::End => *b"EN",
         }
     }
@@ -51,19 +57,20 @@ impl Mark {
         Mark::ALL.into_iter().find(|mark| mark.bytes() == bytes)
     }
 
-    /// "Order: one LB, any ND, any HX, one EN, nothing more."
+    /// "Order: one LB, any ND, any HX, one EN, nothing more."  GR is "allowed
+    /// anywhere among the elements"; "No. 1's order gains GR after the nodes".
     fn may_follow(self, before: Option<Mark>) -> bool {
         match before {
             None => self == Mark::Label,
             Some(Mark::Label | Mark::Node) => self != Mark::Label,
-            Some(Mark::Element) => self == Mark::Element || self == Mark::End,
+            Some(Mark::Element | Mark::Group) => self != Mark::Label && self != Mark::Node,
             Some(Mark::End) => false,
         }
     }
 
     fn may_have_length(self, length: usize) -> bool {
         match self {
-            Mark::Label => length <= MOST_LABEL_BYTES,
+            Mark::Label | Mark::Group => length <= MOST_NAME_BYTES,
             Mark::Node => length == 4 * NODE_WORDS,
             Mark::Element => length == 4 * ELEMENT_WORDS,
             Mark::End => length == 0,
@@ -71,19 +78,115 @@ impl Mark {
     }
 }
 
-/// A lot without fault that fits the lent space.
+/// A byte that a label or name may not have.
+fn is_wrong(byte: &u8) -> bool {
+    !(32..=126).contains(byte)
+}
+
+// ------------------------------------------------------------------ groups --
+
+/// The groups of a lot.  01: "handed in and out as names laid end to end, with
+/// each one's length and the count of elements before it".
+#[derive(Clone, Debug, Default, PartialEq, Eq)]
+pub struct Groups {
+    pub names: Vec<u8>,
+    pub lengths: Vec<u32>,
+    pub befores: Vec<u32>,
+}
+
+impl Groups {
+    /// One more group, after this many elements.
+    pub fn push(&mut self, before: u32, name: &[u8]) {
+        self.names.extend(name);
+        self.lengths.push(name.len() as u32);
+        self.befores.push(before);
+    }
+
+    /// Of each group the count of elements before it and where its name stands,
+    /// as far as both lists go.  A name that would reach past the names' end is
+    /// cut there, and one that would start past it is empty.
+    pub fn each(&self) -> impl Iterator<Item = (u32, Range<usize>)> + '_ {
+        let mut end = 0usize;
+        let places = self.lengths.iter().map(move |&length| {
+            let start = end;
+            end = start.saturating_add(length as usize).min(self.names.len());
+            start..end
+        });
+        self.befores.iter().copied().zip(places)
+    }
+
+    /// Where the name stands that an element, counted from 0, has from its group;
+    /// none if it bears the lot's label.  02: a GR is "in force until the next
+    /// one"; "a group with an empty name bears the lot's label, and so does an
+    /// element before any GR."
+    pub fn name_of(&self, element: u32) -> Option<Range<usize>> {
+        let (_, name) = self.each().filter(|(before, _)| *before <= element).last()?;
+        (!name.is_empty()).then_some(name)
+    }
+}
+
+// -------------------------------------------------------------------- lots --
+
+/// What a lot holds.
 #[derive(Clone, Debug, Default, PartialEq, Eq)]
 pub struct Lot {
-    /// Where the label stands.  "the label comes back as the bytes in the file
-    /// themselves, not as a copy."
-    pub label: Range<usize>,
+    pub label: Vec<u8>,
     /// x, y, z of each node in turn.
     pub nodes: Vec<i32>,
     /// Eight indices of each element in turn.
     pub elements: Vec<u32>,
+    pub groups: Groups,
+}
+
+/// Lengths of lent runs: for the nodes' words, the elements' words, the names'
+/// bytes, the names' lengths, the counts of elements before each group.
+pub type Space = [usize; 5];
+
+/// Space in which every lot fits.
+pub const AMPLE: Space = [usize::MAX; 5];
+
+impl Lot {
+    /// A lot without groups.
+    pub fn new(
+        label: &[u8],
+        nodes: &[[i32; NODE_WORDS]],
+        elements: &[[u32; ELEMENT_WORDS]],
+    ) -> Lot {
+        Lot {
+            label: label.to_vec(),
+            nodes: nodes.concat(),
+            elements: elements.concat(),
+            groups: Groups::default(),
+        }
+    }
+
+    /// The lot with one more group, after this many elements.
+    pub fn group(mut self, before: u32, name: &[u8]) -> Lot {
+        self.groups.push(before, name);
+        self
+    }
+
+    /// The name that an element, counted from 0, bears.
+    pub fn name_of(&self, element: u32) -> &[u8] {
+        self.groups.name_of(element).map_or(&self.label, |name| &self.groups.names[name])
+    }
+
+    /// The least space in which the lot fits.
+    pub fn needs(&self) -> Space {
+        let Groups { names, lengths, befores } = &self.groups;
+        [self.nodes.len(), self.elements.len(), names.len(), lengths.len(), befores.len()]
+    }
 }
 
 // ----------------------------------------------------------------- reading --
+
+/// A lot that was read, and where its label stands: "the label comes back as the
+/// bytes in the file themselves, not as a copy."
+#[derive(Clone, Debug, Default, PartialEq, Eq)]
+pub struct Reading {
+    pub label_at: usize,
+    pub lot: Lot,
+}
 
 /// 01: "Numbers in our files stand low byte first."
 fn words(body: &[u8]) -> Vec<u32> {
@@ -114,94 +217,48 @@ fn first_record(rest: &[u8], before: Option<Mark>) -> Result<(Mark, &[u8]), u32>
 }
 
 /// What one more record says, put to the lot; `at` is where its body stands.
-fn take(lot: &mut Lot, mark: Mark, body: &[u8], at: usize) -> Result<(), u32> {
+fn take(reading: &mut Reading, mark: Mark, body: &[u8], at: usize) -> Result<(), u32> {
+    let lot = &mut reading.lot;
+    let elements = lot.elements.len() / ELEMENT_WORDS;
     match mark {
-        Mark::Label if body.iter().any(|&byte| !(32..=126).contains(&byte)) => {
-            return Err(25); // "label byte 25"
+        Mark::Label | Mark::Group if body.iter().any(is_wrong) => {
+            return Err(25); // "label byte 25", and 01: "a wrong byte in it 25"
         }
-        Mark::Element if lot.elements.len() == ELEMENT_WORDS * MOST_ELEMENTS => {
+        Mark::Element if elements == MOST_ELEMENTS => {
             return Err(26); // "a 1,001st element 26"
         }
-        Mark::Label => lot.label = at..at + body.len(),
+        Mark::Label => {
+            reading.label_at = at;
+            lot.label.extend(body);
+        }
         Mark::Node => lot.nodes.extend(words(body).iter().map(|&word| word as i32)),
         Mark::Element => lot.elements.extend(words(body)),
+        Mark::Group => lot.groups.push(elements as u32, body),
         Mark::End => {}
     }
     Ok(())
 }
 
-/// Reads a lot file for lent space of these numbers of words; the number of the
-/// refusal if there is one.
-pub fn read_lot(file: &[u8], nodes_len: usize, elements_len: usize) -> Result<Lot, u32> {
+/// Reads a lot file for lent space of these lengths; the number of the refusal
+/// if there is one.
+pub fn read_lot(file: &[u8], space: Space) -> Result<Reading, u32> {
     if file.len() > MOST_BYTES {
         return Err(20); // "20 file too long, tested first"
     }
-    let mut lot = Lot::default();
+    let mut reading = Reading::default();
     let mut before = None;
     let mut at = 0;
     while before != Some(Mark::End) {
         let (mark, body) = first_record(&file[at..], before)?;
-        take(&mut lot, mark, body, at + HEAD_BYTES)?;
+        take(&mut reading, mark, body, at + HEAD_BYTES)?;
         at += HEAD_BYTES + body.len();
         before = Some(mark);
     }
     if at < file.len() {
         return Err(24); // "Bytes after EN, whatever they are, are 24."
     }
-    if lot.nodes.len() > nodes_len || lot.elements.len() > elements_len {
-        return Err(27); // "whose nodes or elements don't fit the lent space"
+    if reading.lot.needs().iter().zip(space).any(|(&need, lent)| need > lent) {
+        return Err(27); // "don't fit the lent space"; "its 27 counts groups too"
     }
-    Ok(lot)
-}
-
-// ----------------------------------------------------------------- writing --
-
-/// A record, with any mark, length and body.
-pub fn write_record(mark: [u8; 2], length: u16, body: &[u8]) -> Vec<u8> {
-    [&mark[..], &[(length % 256) as u8, (length / 256) as u8], body].concat()
-}
-
-fn write_words(mark: Mark, words: &[u32]) -> Vec<u8> {
-    let body: Vec<u8> = words.iter().flat_map(|word| word.to_le_bytes()).collect();
-    write_record(mark.bytes(), body.len() as u16, &body)
-}
-
-/// A label's record; it is no good one if the label is longer than 32 bytes or
-/// has a wrong byte.
-pub fn write_label(label: &[u8]) -> Vec<u8> {
-    write_record(Mark::Label.bytes(), label.len() as u16, label)
-}
-
-pub fn write_node(node: [i32; NODE_WORDS]) -> Vec<u8> {
-    write_words(Mark::Node, &node.map(|word| word as u32))
-}
-
-pub fn write_element(element: [u32; ELEMENT_WORDS]) -> Vec<u8> {
-    write_words(Mark::Element, &element)
-}
-
-pub fn write_end() -> Vec<u8> {
-    write_words(Mark::End, &[])
-}
-
-/// The records of a lot, in their order.
-pub fn write_records(
-    label: &[u8],
-    nodes: &[[i32; NODE_WORDS]],
-    elements: &[[u32; ELEMENT_WORDS]],
-) -> Vec<Vec<u8>> {
-    let mut records = vec![write_label(label)];
-    records.extend(nodes.iter().copied().map(write_node));
-    records.extend(elements.iter().copied().map(write_element));
-    records.push(write_end());
-    records
-}
-
-/// A lot file.
-pub fn write_lot(
-    label: &[u8],
-    nodes: &[[i32; NODE_WORDS]],
-    elements: &[[u32; ELEMENT_WORDS]],
-) -> Vec<u8> {
-    write_records(label, nodes, elements).concat()
+    Ok(reading)
 }

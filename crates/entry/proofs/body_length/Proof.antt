@@ -21,6 +21,9 @@ enum-told-3 c = search needs
 enum-told-4 : tie.Need-enum-told-4
 enum-told-4 c = search needs
 
+enum-told-5 : tie.Need-enum-told-5
+enum-told-5 c = search needs
+
 returns : tie.Need-returns
 returns c = search needs
 
@@ -31,9 +34,12 @@ returns-3 : tie.Need-returns-3
 returns-3 c = let s = c .before .before in sym (eqb-true _ _ (subst (λ (m : Mark). rightLength lotFile (markHeld m) (s .args .n) ≡ true) (c .enum-told3 .given .1) (s .pre)))
 
 returns-4 : tie.Need-returns-4
-returns-4 c = let s = c .before .before in sym (eqb-true _ _ (subst (λ (m : Mark). rightLength lotFile (markHeld m) (s .args .n) ≡ true) (c .enum-told4 .given .1) (s .pre)))
+returns-4 c = search needs
+
+returns-5 : tie.Need-returns-5
+returns-5 c = let s = c .before .before in sym (eqb-true _ _ (subst (λ (m : Mark). rightLength lotFile (markHeld m) (s .args .n) ≡ true) (c .enum-told5 .given .1) (s .pre)))
 
 pub body-length-spec : {M : Type 1} → statement M
 body-length-spec =
     tie.close
-    (tie.spec enum-told enum-told-2 enum-told-3 enum-told-4 returns returns-2 returns-3 returns-4)
+    (tie.spec enum-told enum-told-2 enum-told-3 enum-told-4 enum-told-5 returns returns-2 returns-3 returns-4 returns-5)

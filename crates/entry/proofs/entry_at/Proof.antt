@@ -66,6 +66,12 @@ enum-told-5 c = search needs
 known-at-requires-4 : tie.Need-known-at-requires-4
 known-at-requires-4 c κs = search needs
 
+enum-told-6 : tie.Need-enum-told-6
+enum-told-6 c = search needs
+
+known-at-requires-5 : tie.Need-known-at-requires-5
+known-at-requires-5 c κs = search needs
+
 returns-2 : tie.Need-returns-2
 returns-2 c =
     let s = c .before .before .before .before .before in
@@ -95,6 +101,12 @@ returns-6 c =
     let same = by-mark _ _ (s .args .file .now) (s .args .at) (c .before .before .before .before .before .before .before .if1 .left) (c .before .before .before .before .before .before .mark-at .ensures) (c .before .before .before .before .marked .given .1) (c .before .enum-told5 .given .1) in
     (c .known-at4 .ensures .0 ∙ sym same, c .known-at4 .ensures .1)
 
+returns-7 : tie.Need-returns-7
+returns-7 c =
+    let s = c .before .before .before .before .before .before .before .before .before in
+    let same = by-mark _ _ (s .args .file .now) (s .args .at) (c .before .before .before .before .before .before .before .if1 .left) (c .before .before .before .before .before .before .mark-at .ensures) (c .before .before .before .before .marked .given .1) (c .before .enum-told6 .given .1) in
+    (c .known-at5 .ensures .0 ∙ sym same, c .known-at5 .ensures .1)
+
 pub entry-at-spec : {M : Type 1} → statement M
 entry-at-spec =
     tie.close
@@ -112,8 +124,11 @@ entry-at-spec =
     known-at-requires-3
     enum-told-5
     known-at-requires-4
+    enum-told-6
+    known-at-requires-5
     returns-2
     returns-3
     returns-4
     returns-5
-    returns-6)
+    returns-6
+    returns-7)

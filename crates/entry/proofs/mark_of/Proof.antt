@@ -1,4 +1,4 @@
--- `mark_of` meets its contract: a number that was tested for is known, and any other is none of the four. Assumes nothing.
+-- `mark_of` meets its contract: a number that was tested for is known, and any other is none of the five. Assumes nothing.
 use mathlib.Core.Path.{sym}
 use Rattle.lotfile.specs.Format.{markOf}
 use Rattle.entry.proofs.Laws.{mark-none}
@@ -22,7 +22,11 @@ unfolding markOf
 returns-4 c = rw (c .if4 .taken)
 
 returns-5 : tie.Need-returns-5
-returns-5 c = sym (mark-none _ (c .before .before .before .if1 .left) (c .before .before .if2 .left) (c .before .if3 .left) (c .if4 .left))
+unfolding markOf
+returns-5 c = rw (c .if5 .taken)
+
+returns-6 : tie.Need-returns-6
+returns-6 c = sym (mark-none _ (c .before .before .before .before .if1 .left) (c .before .before .before .if2 .left) (c .before .before .if3 .left) (c .before .if4 .left) (c .if5 .left))
 
 pub mark-of-spec : {M : Type 1} → statement M
-mark-of-spec = tie.close (tie.spec returns returns-2 returns-3 returns-4 returns-5)
+mark-of-spec = tie.close (tie.spec returns returns-2 returns-3 returns-4 returns-5 returns-6)

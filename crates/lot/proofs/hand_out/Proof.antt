@@ -1,28 +1,31 @@
 -- `hand_out` meets its contract. The loop's invariant: how far the handing out has come (`Handed`). Assumes nothing.
-use mathlib.Core.Path.{sym, _∙_, ap}
+use mathlib.Core.Path.{sym, _∙_, ap, subst}
 use Prim.Native.Nat.{_-_}
 use native.Mathlib.Omega.{arith}
 use borrow.Author.Needs.{needs}
 use lib.ListN.{length}
 use Rattle.entry.specs.Meaning.{markHeld, markedHeld}
-use Rattle.lot.proofs.Handed.{Handed, not-unknown, here, handed-start, handed-next, four-left, same-nodes, same-elements, handed-all, right-here, within-file, handed-fits, handed-then}
+use Rattle.lot.specs.declared.Counts.{Counts}
+use Rattle.lot.proofs.Handed.{Handed, short-file, not-unknown, here, handed-start, handed-next, four-left, same-nodes, same-elements, same-names, same-lengths, same-befores, handed-all, within-file, small-here, handed-fits, handed-then}
 use Rattle.lot.proofs.hand_out.Statement.{statement}
 use Rattle.lot.proofs.hand_out.Tie as tie
 
 abbrev Inv-loop : tie.InvT-loop
-Inv-loop file nodes₀ elements₀ at₀ filled₀ nodes elements at filled = Handed file nodes₀ elements₀ nodes elements at filled
+Inv-loop file nodes₀ elements₀ names₀ lengths₀ befores₀ at₀ n₀ nodes elements names lengths befores at n =
+    Handed file (record { nodes = nodes₀; elements = elements₀; names = names₀; lengths = lengths₀; befores = befores₀ }) (record { nodes = nodes; elements = elements; names = names; lengths = lengths; befores = befores }) at n
 
 abbrev μ-loop : tie.MeasureT-loop
-μ-loop file nodes₀ elements₀ at₀ filled₀ nodes elements at filled = length file - at
+μ-loop file nodes₀ elements₀ names₀ lengths₀ befores₀ at₀ n₀ nodes elements names lengths befores at n = length file - at
+
+nothing-requires : tie.Need-nothing-requires Inv-loop μ-loop
+nothing-requires c κs = search needs
 
 loop-holds : tie.Need-loop-holds Inv-loop μ-loop
-loop-holds c = let s = c .before .before in handed-start _ (s .pre .0) (s .pre .1)
+loop-holds c = subst (Handed _ _ _ 0) (sym (c .nothing .ensures)) (handed-start _ _ (c .before .before .before .before .before .before .pre))
 
 mark-at-requires : tie.Need-mark-at-requires Inv-loop μ-loop
 mark-at-requires c κs =
-    let s = c .before .before .before .before in
-    let x = c .before .loop .inv in
-    let four = four-left _ (s .pre .0) (s .pre .1) x (omega arith) in
+    let four = four-left _ _ (c .before .before .before .before .before .before .before .before .pre) (c .before .loop .inv) (omega arith) in
     omega (arith, four)
 
 enum-known-marked : tie.Need-enum-known-marked Inv-loop μ-loop
@@ -32,98 +35,83 @@ enum-told : tie.Need-enum-told Inv-loop μ-loop
 enum-told c = search needs
 
 same-length : tie.Need-same-length Inv-loop μ-loop
-same-length c =
-    let s = c .before .before .before .before .before .before .before in
-    let x = c .before .before .before .before .loop .inv in
-    same-nodes _ (s .pre .0) (s .pre .1) x
+same-length c = same-nodes _ _ (c .before .before .before .before .before .before .before .before .before .before .before .pre) (c .before .before .before .before .loop .inv)
 
 same-length-2 : tie.Need-same-length-2 Inv-loop μ-loop
-same-length-2 c =
-    let s = c .before .before .before .before .before .before .before in
-    let x = c .before .before .before .before .loop .inv in
-    same-elements _ (s .pre .0) (s .pre .1) x
+same-length-2 c = same-elements _ _ (c .before .before .before .before .before .before .before .before .before .before .before .pre) (c .before .before .before .before .loop .inv)
+
+same-length-3 : tie.Need-same-length-3 Inv-loop μ-loop
+same-length-3 c = same-names _ _ (c .before .before .before .before .before .before .before .before .before .before .before .pre) (c .before .before .before .before .loop .inv)
+
+same-length-4 : tie.Need-same-length-4 Inv-loop μ-loop
+same-length-4 c = same-lengths _ _ (c .before .before .before .before .before .before .before .before .before .before .before .pre) (c .before .before .before .before .loop .inv)
+
+same-length-5 : tie.Need-same-length-5 Inv-loop μ-loop
+same-length-5 c = same-befores _ _ (c .before .before .before .before .before .before .before .before .before .before .before .pre) (c .before .before .before .before .loop .inv)
 
 returns : tie.Need-returns Inv-loop μ-loop
-returns c =
-    let s = c .before .before .before .before .before .before .before in
-    let x = c .before .before .before .before .loop .inv in
-    not-unknown (handed-next _ (s .pre .0) (s .pre .1) x (omega arith)) (sym (c .before .before .mark-at .ensures) ∙ ap markedHeld (c .enum-told .given .1))
+returns c = not-unknown (c .before .before .before .before .loop .inv .seen) (handed-next _ _ (c .before .before .before .before .before .before .before .before .before .before .before .pre) (c .before .before .before .before .loop .inv) (omega arith)) (sym (c .before .before .mark-at .ensures) ∙ ap markedHeld (c .enum-told .given .1))
 
 length-at-requires : tie.Need-length-at-requires Inv-loop μ-loop
-length-at-requires c κs =
-    let s = c .before .before .before .before .before .before .before .before in
-    let x = c .before .before .before .before .before .loop .inv in
-    four-left _ (s .pre .0) (s .pre .1) x (omega arith)
+length-at-requires c κs = four-left _ _ (c .before .before .before .before .before .before .before .before .before .before .before .before .pre) (c .before .before .before .before .before .loop .inv) (omega arith)
 
 body-length-requires : tie.Need-body-length-requires Inv-loop μ-loop
 body-length-requires c κs =
-    let s = c .before .before .before .before .before .before .before .before .before in
-    let x = c .before .before .before .before .before .before .loop .inv in
-    let entry = here (handed-next _ (s .pre .0) (s .pre .1) x (omega arith)) (markHeld (c .before .before .marked .given .0 .0)) _ (sym (c .before .before .before .before .mark-at .ensures) ∙ ap markedHeld (c .before .before .marked .given .1)) (c .length-at .ensures .0) in
-    right-here _ (s .pre .0) (s .pre .1) x entry
+    let entry = here (c .before .before .before .before .before .before .loop .inv .seen) (handed-next _ _ (c .before .before .before .before .before .before .before .before .before .before .before .before .before .pre) (c .before .before .before .before .before .before .loop .inv) (omega arith)) (markHeld (c .before .before .marked .given .0 .0)) _ (sym (c .before .before .before .before .mark-at .ensures) ∙ ap markedHeld (c .before .before .marked .given .1)) (c .length-at .ensures .0) in
+    entry .right
 
 add-put-entry : tie.Need-add-put-entry Inv-loop μ-loop
 add-put-entry c =
-    let s = c .before .before .before .before .before .before .before .before .before .before in
-    let x = c .before .before .before .before .before .before .before .loop .inv in
-    let four = four-left _ (s .pre .0) (s .pre .1) x (omega arith) in
+    let four = four-left _ _ (c .before .before .before .before .before .before .before .before .before .before .before .before .before .before .pre) (c .before .before .before .before .before .before .before .loop .inv) (omega arith) in
     omega (arith, four)
 
 put-entry-requires : tie.Need-put-entry-requires Inv-loop μ-loop
 put-entry-requires c κs =
-    let s = c .before .before .before .before .before .before .before .before .before .before .before .before in
-    let x = c .before .before .before .before .before .before .before .before .before .loop .inv in
-    let entry = here (handed-next _ (s .pre .0) (s .pre .1) x (omega arith)) (markHeld (c .before .before .before .before .before .marked .given .0 .0)) _ (sym (c .before .before .before .before .before .before .before .mark-at .ensures) ∙ ap markedHeld (c .before .before .before .before .before .marked .given .1)) (c .before .before .body-length .ensures ∙ c .before .before .before .length-at .ensures .0) in
-    handed-fits _ (s .pre .0) (s .pre .1) x entry
+    let entry = here (c .before .before .before .before .before .before .before .before .before .before .before .before .loop .inv .seen) (handed-next _ _ (c .before .before .before .before .before .before .before .before .before .before .before .before .before .before .before .before .before .before .before .pre) (c .before .before .before .before .before .before .before .before .before .before .before .before .loop .inv) (omega arith)) (markHeld (c .before .before .before .before .before .before .before .before .marked .given .0 .0)) _ (sym (c .before .before .before .before .before .before .before .before .before .before .mark-at .ensures) ∙ ap markedHeld (c .before .before .before .before .before .before .before .before .marked .given .1)) (c .before .before .before .before .before .body-length .ensures ∙ c .before .before .before .before .before .before .length-at .ensures .0) in
+    handed-fits _ _ (c .before .before .before .before .before .before .before .before .before .before .before .before .before .before .before .before .before .before .before .pre) (c .before .before .before .before .before .before .before .before .before .before .before .before .loop .inv) entry
+
+counted-requires : tie.Need-counted-requires Inv-loop μ-loop
+counted-requires c κs =
+    let entry = here (c .before .before .before .before .before .before .before .before .before .before .before .before .before .before .before .before .before .before .before .before .before .before .loop .inv .seen) (handed-next _ _ (c .before .before .before .before .before .before .before .before .before .before .before .before .before .before .before .before .before .before .before .before .before .before .before .before .before .before .before .before .before .pre) (c .before .before .before .before .before .before .before .before .before .before .before .before .before .before .before .before .before .before .before .before .before .before .loop .inv) (omega arith)) (markHeld (c .before .before .before .before .before .before .before .before .before .before .before .before .before .before .before .before .before .before .marked .given .0 .0)) _ (sym (c .before .before .before .before .before .before .before .before .before .before .before .before .before .before .before .before .before .before .before .before .mark-at .ensures) ∙ ap markedHeld (c .before .before .before .before .before .before .before .before .before .before .before .before .before .before .before .before .before .before .marked .given .1)) (c .before .before .before .before .before .before .before .before .before .before .before .before .before .before .before .body-length .ensures ∙ c .before .before .before .before .before .before .before .before .before .before .before .before .before .before .before .before .length-at .ensures .0) in
+    small-here _ _ (c .before .before .before .before .before .before .before .before .before .before .before .before .before .before .before .before .before .before .before .before .before .before .before .before .before .before .before .before .before .pre) (c .before .before .before .before .before .before .before .before .before .before .before .before .before .before .before .before .before .before .before .before .before .before .loop .inv) entry
 
 add-at : tie.Need-add-at Inv-loop μ-loop
 add-at c =
-    let s = c .before .before .before .before .before .before .before .before .before .before .before .before .before .before .before .before in
-    let x = c .before .before .before .before .before .before .before .before .before .before .before .before .before .loop .inv in
-    let four = four-left _ (s .pre .0) (s .pre .1) x (omega arith) in
-    omega (arith, four)
+    let four = four-left _ _ (c .before .before .before .before .before .before .before .before .before .before .before .before .before .before .before .before .before .before .before .before .before .before .before .before .before .before .before .before .before .before .pre) (c .before .before .before .before .before .before .before .before .before .before .before .before .before .before .before .before .before .before .before .before .before .before .before .loop .inv) (omega arith) in
+    omega (arith, four, short-file _ _ (c .before .before .before .before .before .before .before .before .before .before .before .before .before .before .before .before .before .before .before .before .before .before .before .before .before .before .before .before .before .before .pre) (c .before .before .before .before .before .before .before .before .before .before .before .before .before .before .before .before .before .before .before .before .before .before .before .loop .inv))
 
 add-at-2 : tie.Need-add-at-2 Inv-loop μ-loop
 add-at-2 c =
-    let s = c .before .before .before .before .before .before .before .before .before .before .before .before .before .before .before .before in
-    let x = c .before .before .before .before .before .before .before .before .before .before .before .before .before .loop .inv in
-    let entry = here (handed-next _ (s .pre .0) (s .pre .1) x (omega arith)) (markHeld (c .before .before .before .before .before .before .before .before .before .marked .given .0 .0)) _ (sym (c .before .before .before .before .before .before .before .before .before .before .before .mark-at .ensures) ∙ ap markedHeld (c .before .before .before .before .before .before .before .before .before .marked .given .1)) (c .before .before .before .before .before .before .body-length .ensures ∙ c .before .before .before .before .before .before .before .length-at .ensures .0) in
-    let end = within-file _ (s .pre .0) (s .pre .1) x entry in
-    omega (arith, end)
+    let entry = here (c .before .before .before .before .before .before .before .before .before .before .before .before .before .before .before .before .before .before .before .before .before .before .before .loop .inv .seen) (handed-next _ _ (c .before .before .before .before .before .before .before .before .before .before .before .before .before .before .before .before .before .before .before .before .before .before .before .before .before .before .before .before .before .before .pre) (c .before .before .before .before .before .before .before .before .before .before .before .before .before .before .before .before .before .before .before .before .before .before .before .loop .inv) (omega arith)) (markHeld (c .before .before .before .before .before .before .before .before .before .before .before .before .before .before .before .before .before .before .before .marked .given .0 .0)) _ (sym (c .before .before .before .before .before .before .before .before .before .before .before .before .before .before .before .before .before .before .before .before .before .mark-at .ensures) ∙ ap markedHeld (c .before .before .before .before .before .before .before .before .before .before .before .before .before .before .before .before .before .before .before .marked .given .1)) (c .before .before .before .before .before .before .before .before .before .before .before .before .before .before .before .before .body-length .ensures ∙ c .before .before .before .before .before .before .before .before .before .before .before .before .before .before .before .before .before .length-at .ensures .0) in
+    omega (arith, short-file _ _ (c .before .before .before .before .before .before .before .before .before .before .before .before .before .before .before .before .before .before .before .before .before .before .before .before .before .before .before .before .before .before .pre) (c .before .before .before .before .before .before .before .before .before .before .before .before .before .before .before .before .before .before .before .before .before .before .before .loop .inv), within-file _ _ (c .before .before .before .before .before .before .before .before .before .before .before .before .before .before .before .before .before .before .before .before .before .before .before .before .before .before .before .before .before .before .pre) (c .before .before .before .before .before .before .before .before .before .before .before .before .before .before .before .before .before .before .before .before .before .before .before .loop .inv) entry)
 
 loop-less : tie.Need-loop-less Inv-loop μ-loop
 loop-less c =
-    let s = c .before .before .before .before .before .before .before .before .before .before .before .before .before .before .before .before in
-    let x = c .before .before .before .before .before .before .before .before .before .before .before .before .before .loop .inv in
-    let entry = here (handed-next _ (s .pre .0) (s .pre .1) x (omega arith)) (markHeld (c .before .before .before .before .before .before .before .before .before .marked .given .0 .0)) _ (sym (c .before .before .before .before .before .before .before .before .before .before .before .mark-at .ensures) ∙ ap markedHeld (c .before .before .before .before .before .before .before .before .before .marked .given .1)) (c .before .before .before .before .before .before .body-length .ensures ∙ c .before .before .before .before .before .before .before .length-at .ensures .0) in
-    let end = within-file _ (s .pre .0) (s .pre .1) x entry in
-    omega (arith, end)
+    let entry = here (c .before .before .before .before .before .before .before .before .before .before .before .before .before .before .before .before .before .before .before .before .before .before .before .loop .inv .seen) (handed-next _ _ (c .before .before .before .before .before .before .before .before .before .before .before .before .before .before .before .before .before .before .before .before .before .before .before .before .before .before .before .before .before .before .pre) (c .before .before .before .before .before .before .before .before .before .before .before .before .before .before .before .before .before .before .before .before .before .before .before .loop .inv) (omega arith)) (markHeld (c .before .before .before .before .before .before .before .before .before .before .before .before .before .before .before .before .before .before .before .marked .given .0 .0)) _ (sym (c .before .before .before .before .before .before .before .before .before .before .before .before .before .before .before .before .before .before .before .before .before .mark-at .ensures) ∙ ap markedHeld (c .before .before .before .before .before .before .before .before .before .before .before .before .before .before .before .before .before .before .before .marked .given .1)) (c .before .before .before .before .before .before .before .before .before .before .before .before .before .before .before .before .body-length .ensures ∙ c .before .before .before .before .before .before .before .before .before .before .before .before .before .before .before .before .before .length-at .ensures .0) in
+    omega (arith, within-file _ _ (c .before .before .before .before .before .before .before .before .before .before .before .before .before .before .before .before .before .before .before .before .before .before .before .before .before .before .before .before .before .before .pre) (c .before .before .before .before .before .before .before .before .before .before .before .before .before .before .before .before .before .before .before .before .before .before .before .loop .inv) entry)
 
 loop-again : tie.Need-loop-again Inv-loop μ-loop
 loop-again c =
-    let s = c .before .before .before .before .before .before .before .before .before .before .before .before .before .before .before .before in
-    let x = c .before .before .before .before .before .before .before .before .before .before .before .before .before .loop .inv in
-    let entry = here (handed-next _ (s .pre .0) (s .pre .1) x (omega arith)) (markHeld (c .before .before .before .before .before .before .before .before .before .marked .given .0 .0)) _ (sym (c .before .before .before .before .before .before .before .before .before .before .before .mark-at .ensures) ∙ ap markedHeld (c .before .before .before .before .before .before .before .before .before .marked .given .1)) (c .before .before .before .before .before .before .body-length .ensures ∙ c .before .before .before .before .before .before .before .length-at .ensures .0) in
-    let put = c .before .before .before .put-entry .ensures in
-    handed-then _ (s .pre .0) (s .pre .1) x entry (put .1 .0) (put .1 .1) (put .0)
+    let entry = here (c .before .before .before .before .before .before .before .before .before .before .before .before .before .before .before .before .before .before .before .before .before .before .before .loop .inv .seen) (handed-next _ _ (c .before .before .before .before .before .before .before .before .before .before .before .before .before .before .before .before .before .before .before .before .before .before .before .before .before .before .before .before .before .before .pre) (c .before .before .before .before .before .before .before .before .before .before .before .before .before .before .before .before .before .before .before .before .before .before .before .loop .inv) (omega arith)) (markHeld (c .before .before .before .before .before .before .before .before .before .before .before .before .before .before .before .before .before .before .before .marked .given .0 .0)) _ (sym (c .before .before .before .before .before .before .before .before .before .before .before .before .before .before .before .before .before .before .before .before .before .mark-at .ensures) ∙ ap markedHeld (c .before .before .before .before .before .before .before .before .before .before .before .before .before .before .before .before .before .before .before .marked .given .1)) (c .before .before .before .before .before .before .before .before .before .before .before .before .before .before .before .before .body-length .ensures ∙ c .before .before .before .before .before .before .before .before .before .before .before .before .before .before .before .before .before .length-at .ensures .0) in
+    handed-then _ _ (c .before .before .before .before .before .before .before .before .before .before .before .before .before .before .before .before .before .before .before .before .before .before .before .before .before .before .before .before .before .before .pre) (c .before .before .before .before .before .before .before .before .before .before .before .before .before .before .before .before .before .before .before .before .before .before .before .loop .inv) entry (c .before .before .before .before .before .before .before .before .before .before .put-entry .ensures) (c .counted .ensures)
 
-same-length-3 : tie.Need-same-length-3 Inv-loop μ-loop
-same-length-3 c =
-    let s = c .before .before .before .before in
-    let x = c .before .loop .inv in
-    same-nodes _ (s .pre .0) (s .pre .1) x
+same-length-6 : tie.Need-same-length-6 Inv-loop μ-loop
+same-length-6 c = same-nodes _ _ (c .before .before .before .before .before .before .before .before .pre) (c .before .loop .inv)
 
-same-length-4 : tie.Need-same-length-4 Inv-loop μ-loop
-same-length-4 c =
-    let s = c .before .before .before .before in
-    let x = c .before .loop .inv in
-    same-elements _ (s .pre .0) (s .pre .1) x
+same-length-7 : tie.Need-same-length-7 Inv-loop μ-loop
+same-length-7 c = same-elements _ _ (c .before .before .before .before .before .before .before .before .pre) (c .before .loop .inv)
+
+same-length-8 : tie.Need-same-length-8 Inv-loop μ-loop
+same-length-8 c = same-names _ _ (c .before .before .before .before .before .before .before .before .pre) (c .before .loop .inv)
+
+same-length-9 : tie.Need-same-length-9 Inv-loop μ-loop
+same-length-9 c = same-lengths _ _ (c .before .before .before .before .before .before .before .before .pre) (c .before .loop .inv)
+
+same-length-10 : tie.Need-same-length-10 Inv-loop μ-loop
+same-length-10 c = same-befores _ _ (c .before .before .before .before .before .before .before .before .pre) (c .before .loop .inv)
 
 returns-2 : tie.Need-returns-2 Inv-loop μ-loop
-returns-2 c =
-    let s = c .before .before .before .before in
-    let x = c .before .loop .inv in
-    handed-all _ (s .pre .0) (s .pre .1) x (omega arith)
+returns-2 c = let over = handed-all _ _ (c .before .before .before .before .before .before .before .before .pre) (c .before .loop .inv) (omega arith) in (over .nodes, (over .elements, (over .names, (over .lengths, over .befores))))
 
 pub hand-out-spec : {M : Type 1} → statement M
 hand-out-spec =
@@ -131,21 +119,29 @@ hand-out-spec =
     (tie.spec
     Inv-loop
     μ-loop
+    nothing-requires
     loop-holds
     mark-at-requires
     enum-known-marked
     enum-told
     same-length
     same-length-2
+    same-length-3
+    same-length-4
+    same-length-5
     returns
     length-at-requires
     body-length-requires
     add-put-entry
     put-entry-requires
+    counted-requires
     add-at
     add-at-2
     loop-less
     loop-again
-    same-length-3
-    same-length-4
+    same-length-6
+    same-length-7
+    same-length-8
+    same-length-9
+    same-length-10
     returns-2)

@@ -5,8 +5,9 @@ use native.Mathlib.Omega.{arith}
 use borrow.Author.Needs.{needs}
 use lib.ListN.{length, length-set, take, drop}
 use lib.Seq.{paste, paste-zero, drop-drop}
+use Rattle.foundation.specs.Laid.{paste-next}
 use Rattle.lotfile.specs.Numbers.{number, unsigneds}
-use Rattle.lot.proofs.Laws.{getD-unsigneds, lay-next}
+use Rattle.lot.proofs.Laws.{getD-unsigneds}
 use Rattle.lot.proofs.put_element.Statement.{statement}
 use Rattle.lot.proofs.put_element.Tie as tie
 
@@ -52,7 +53,7 @@ loop-again c =
     let near : k < length words = omega arith in
     let word = c .word-at .ensures ∙ ap (λ l. number (take 4 l)) (sym (drop-drop (4 * k) (s .args .at) (s .args .file .now))) ∙ sym (getD-unsigneds 8 k (drop (s .args .at) (s .args .file .now)) near) in (
       omega arith,
-      lay-next (s .args .elements .now) (c .before .before .loop .elements) words (s .args .n) k (c .word-at .result) 0 far near (c .before .before .loop .inv .1) word,
+      paste-next (s .args .elements .now) (c .before .before .loop .elements) words (s .args .n) k (c .word-at .result) 0 far near (c .before .before .loop .inv .1) word,
       simp length-set (c .before .before .loop .inv .2),
     )
 

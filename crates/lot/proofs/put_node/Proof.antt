@@ -8,8 +8,9 @@ use lib.Seq.{paste, paste-zero, drop-drop}
 use lib.IntN.{pos}
 use mir.Syntax.{w32}
 use mir.ValLaws.{toZ-ofZ}
+use Rattle.foundation.specs.Laid.{paste-next}
 use Rattle.lotfile.specs.Numbers.{number, signed, signeds}
-use Rattle.lot.proofs.Laws.{getD-signeds, lay-next}
+use Rattle.lot.proofs.Laws.{getD-signeds}
 use Rattle.lot.proofs.put_node.Statement.{statement}
 use Rattle.lot.proofs.put_node.Tie as tie
 
@@ -59,7 +60,7 @@ loop-again c =
     let bits = c .before .word-at .ensures ∙ ap (λ l. number (take 4 l)) (sym (drop-drop (4 * k) (s .args .at) (s .args .file .now))) in
     let word = toZ-ofZ w32 (c .signed-word .result) (record { sfits = c .signed-word .ok }) ∙ c .signed-word .ensures ∙ ap signed bits ∙ sym (getD-signeds 3 k (drop (s .args .at) (s .args .file .now)) near) in (
       omega arith,
-      lay-next (s .args .nodes .now) (c .before .before .before .loop .nodes) words (s .args .n) k _ (pos 0) far near (c .before .before .before .loop .inv .1) word,
+      paste-next (s .args .nodes .now) (c .before .before .before .loop .nodes) words (s .args .n) k _ (pos 0) far near (c .before .before .before .loop .inv .1) word,
       simp length-set (c .before .before .before .loop .inv .2),
     )
 

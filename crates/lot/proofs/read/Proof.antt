@@ -1,16 +1,17 @@
 -- `read` meets its contract: by what the scan of the file found. Assumes nothing.
-use mathlib.Core.Path.{_≡_, refl, sym, _∙_, ap, ap₂, subst}
+use mathlib.Core.Path.{_≡_, refl, sym, _∙_, ap, subst}
+use mathlib.Core.List.{List, [], _∷_}
+use Prim.Native.Nat.{ℕ, _+_}
 use native.Mathlib.Omega.{arith}
-use borrow.Author.Needs.{needs}
-use lib.ListN.{length, take, drop}
-use mathlib.Core.List.{_∷_, []}
-use Prim.Native.Nat.{ℕ, _+_, _-_, _/_}
+use lib.ListN.{length}
+use Rattle.foundation.specs.Laid.{laidOver}
 use Rattle.lotfile.specs.NumberLaws.{bytes-by-place}
-use Rattle.lotfile.specs.Format.{lotFile, Lot}
-use Rattle.lotfile.specs.Reading.{readLot, reading, handedOut, labelPlace, readingNumbers, laidOver}
-use Rattle.lotfile.specs.Accepted.{accepted-label, accepted-label-fits}
+use Rattle.lotfile.specs.Format.{lotFile}
+use Rattle.lotfile.specs.Runs.{Runs}
+use Rattle.lotfile.specs.Reading.{readInto, readingNumbers}
 use Rattle.lot.specs.Meaning.{scanHeld, Few}
-use Rattle.lot.proofs.Answers.{scan-fails, scan-holds, readable}
+use Rattle.lot.proofs.Answers.{scan-fails, read-handable, read-same, read-numbers, read-place, label-there, label-is}
+use borrow.Author.Needs.{needs}
 use Rattle.lot.proofs.read.Statement.{statement}
 use Rattle.lot.proofs.read.Tie as tie
 
@@ -36,26 +37,22 @@ enum-known-found-2 : tie.Need-enum-known-found-2
 enum-known-found-2 c = search needs
 
 hand-out-requires : tie.Need-hand-out-requires
-hand-out-requires c κs =
-    let s = c .before .before .before .before .before .before .before .before in
-    let held = scan-holds _ (sym (ap scanHeld (c .before .before .before .found2 .given .1)) ∙ c .before .before .before .before .before .scan-with-room .ensures .0) in
-    let got = readable _ _ _ (held .good) in
-    (got .good, got .room)
+hand-out-requires c κs = read-handable _ _ _ (sym (ap scanHeld (c .before .before .before .before .before .before .found2 .given .1)) ∙ c .before .before .before .before .before .before .before .before .scan-with-room .ensures .0)
 
 cast-node-count : tie.Need-cast-node-count
-cast-node-count c =
-    let few = subst Few (c .before .before .before .before .before .before .before .before .found2 .given .1) (c .before .before .before .before .before .before .before .before .before .before .scan-with-room .ensures .1) in
-    omega (arith, few)
+cast-node-count c = let few = subst Few (c .before .before .before .before .before .before .before .before .before .before .before .before .before .before .before .before .before .found2 .given .1) (c .before .before .before .before .before .before .before .before .before .before .before .before .before .before .before .before .before .before .before .scan-with-room .ensures .1) in omega (arith, few)
 
 cast-element-count : tie.Need-cast-element-count
-cast-element-count c =
-    let few = subst Few (c .before .before .before .before .before .before .before .before .before .found2 .given .1) (c .before .before .before .before .before .before .before .before .before .before .before .scan-with-room .ensures .1) in
-    omega (arith, few)
+cast-element-count c = let few = subst Few (c .before .before .before .before .before .before .before .before .before .before .before .before .before .before .before .before .before .before .found2 .given .1) (c .before .before .before .before .before .before .before .before .before .before .before .before .before .before .before .before .before .before .before .before .scan-with-room .ensures .1) in omega (arith, few)
+
+cast-group-count : tie.Need-cast-group-count
+cast-group-count c = let few = subst Few (c .before .before .before .before .before .before .before .before .before .before .before .before .before .before .before .before .before .before .before .found2 .given .1) (c .before .before .before .before .before .before .before .before .before .before .before .before .before .before .before .before .before .before .before .before .before .scan-with-room .ensures .1) in omega (arith, few)
+
+cast-name-bytes : tie.Need-cast-name-bytes
+cast-name-bytes c = let few = subst Few (c .before .before .before .before .before .before .before .before .before .before .before .before .before .before .before .before .before .before .before .before .found2 .given .1) (c .before .before .before .before .before .before .before .before .before .before .before .before .before .before .before .before .before .before .before .before .before .before .scan-with-room .ensures .1) in omega (arith, few)
 
 add-end : tie.Need-add-end
-add-end c =
-    let few = subst Few (c .before .before .before .before .before .before .before .before .before .before .before .found2 .given .1) (c .before .before .before .before .before .before .before .before .before .before .before .before .before .scan-with-room .ensures .1) in
-    omega (arith, few)
+add-end c = let few = subst Few (c .before .before .before .before .before .before .before .before .before .before .before .before .before .before .before .before .before .before .before .before .before .before .found2 .given .1) (c .before .before .before .before .before .before .before .before .before .before .before .before .before .before .before .before .before .before .before .before .before .before .before .before .scan-with-room .ensures .1) in omega (arith, few)
 
 sub-result-2 : tie.Need-sub-result-2
 sub-result-2 c = search needs
@@ -64,21 +61,13 @@ part-result-start-2 : tie.Need-part-result-start-2
 part-result-start-2 c = search needs
 
 part-result-end-2 : tie.Need-part-result-end-2
-part-result-end-2 c =
-    let s = c .before .before .before .before .before .before .before .before .before .before .before .before .before .before .before .before in
-    let held = scan-holds _ (sym (ap scanHeld (c .before .before .before .before .before .before .before .before .before .before .before .found2 .given .1)) ∙ c .before .before .before .before .before .before .before .before .before .before .before .before .before .scan-with-room .ensures .0) in
-    let got = readable _ _ _ (held .good) in
-    let bytes = bytes-by-place (s .args .file .now) (λ i. omega (arith, c .before .before .before .before .before .before .before .before .before .before .before .before .before .before .before .shared-slice-known .given i)) in
-    let lot = handedOut (reading lotFile (s .args .file .now) (length (s .args .nodes .now)) (length (s .args .elements .now))) in
-    let whole : handedOut (readLot lotFile (s .args .file .now)) ≡ lot = ap handedOut (got .same) in
-    let fits = accepted-label-fits lotFile (s .args .file .now) lot bytes (got .same ∙ held .good) in
-    omega (arith, fits, held .label-long)
+part-result-end-2 c = label-there _ _ _ (sym (ap scanHeld (c .before .before .before .before .before .before .before .before .before .before .before .before .before .before .before .before .before .before .before .before .before .before .found2 .given .1)) ∙ c .before .before .before .before .before .before .before .before .before .before .before .before .before .before .before .before .before .before .before .before .before .before .before .before .scan-with-room .ensures .0) (bytes-by-place (c .before .before .before .before .before .before .before .before .before .before .before .before .before .before .before .before .before .before .before .before .before .before .before .before .before .before .before .before .before .before .args .file .now) (λ i. omega (arith, c .before .before .before .before .before .before .before .before .before .before .before .before .before .before .before .before .before .before .before .before .before .before .before .before .before .before .before .before .before .shared-slice-known .given i)))
 
 returns : tie.Need-returns
 unfolding readingNumbers
 returns c =
-    let failed = scan-fails (reading lotFile (c .before .before .before .before .before .before .before .before .before .args .file .now) (length (c .before .before .before .before .before .before .before .before .before .args .nodes .now)) (length (c .before .before .before .before .before .before .before .before .before .args .elements .now))) (sym (ap scanHeld (c .before .before .before .before .found .given .1)) ∙ c .before .before .before .before .before .before .scan-with-room .ensures .0) in
-    rw failed (refl, (refl, (refl, (ap (λ (n : ℕ). n ∷ 0 ∷ 0 ∷ []) (c .before .before .refusal-number .ensures), refl))))
+    let failed = scan-fails (readInto lotFile (c .before .before .before .before .before .before .before .before .before .before .before .before .args .file .now) (c .before .before .before .before .before .before .before .before .before .before .before .before .args .nodes .now) (c .before .before .before .before .before .before .before .before .before .before .before .before .args .elements .now) (c .before .before .before .before .before .before .before .before .before .before .before .before .args .names .now) (c .before .before .before .before .before .before .before .before .before .before .before .before .args .lengths .now) (c .before .before .before .before .before .before .before .before .before .before .before .before .args .befores .now)) (sym (ap scanHeld (c .before .before .before .before .found .given .1)) ∙ c .before .before .before .before .before .before .scan-with-room .ensures .0) in
+    rw failed (refl, (refl, (refl, (refl, (refl, (refl, (ap (λ (n : ℕ). n ∷ 0 ∷ 0 ∷ 0 ∷ 0 ∷ []) (c .before .before .refusal-number .ensures), refl)))))))
 
 same-length : tie.Need-same-length
 same-length c = search needs
@@ -86,29 +75,34 @@ same-length c = search needs
 same-length-2 : tie.Need-same-length-2
 same-length-2 c = search needs
 
+same-length-3 : tie.Need-same-length-3
+same-length-3 c = search needs
+
+same-length-4 : tie.Need-same-length-4
+same-length-4 c = search needs
+
+same-length-5 : tie.Need-same-length-5
+same-length-5 c = search needs
+
 returns-2 : tie.Need-returns-2
-unfolding readingNumbers
 returns-2 c =
-    let s = c .before .before .before .before .before .before .before .before .before .before .before .before .before .before .before .before .before in
-    let held = scan-holds _ (sym (ap scanHeld (c .before .before .before .before .before .before .before .before .before .before .before .before .found2 .given .1)) ∙ c .before .before .before .before .before .before .before .before .before .before .before .before .before .before .scan-with-room .ensures .0) in
-    let got = readable _ _ _ (held .good) in
-    let bytes = bytes-by-place (s .args .file .now) (λ i. omega (arith, c .before .before .before .before .before .before .before .before .before .before .before .before .before .before .before .before .shared-slice-known .given i)) in
-    let lot = handedOut (reading lotFile (s .args .file .now) (length (s .args .nodes .now)) (length (s .args .elements .now))) in
-    let whole : handedOut (readLot lotFile (s .args .file .now)) ≡ lot = ap handedOut (got .same) in
-    let label = accepted-label lotFile (s .args .file .now) lot bytes (got .same ∙ held .good) in
-    let handed = c .before .before .before .before .before .before .before .before .hand-out .ensures in
-    let n = c .before .before .before .before .before .before .before .before .before .before .before .before .found2 .given .0 .0 in
-    let long : 4 + n .label - 4 ≡ length (lot .label) = omega (arith, held .label-long) in
-    let nodes : n .nodes ≡ length (lot .nodes) / 3 = omega (arith, held .nodes-long) in
-    let elements : n .elements ≡ length (lot .elements) / 8 = omega (arith, held .elements-long) in (
-      ap (λ (k : ℕ). take k (drop 4 (s .args .file .now))) long ∙ sym label,
+    let told = (sym (ap scanHeld (c .before .before .before .before .before .before .before .before .before .before .before .before .before .before .before .before .before .before .before .before .before .before .before .found2 .given .1)) ∙ c .before .before .before .before .before .before .before .before .before .before .before .before .before .before .before .before .before .before .before .before .before .before .before .before .before .scan-with-room .ensures .0) in
+    let same = read-same _ _ _ told in
+    let handed = c .before .before .before .before .before .before .before .before .before .before .before .before .before .before .before .before .hand-out .ensures in (
+      label-is _ _ _ told (bytes-by-place (c .before .before .before .before .before .before .before .before .before .before .before .before .before .before .before .before .before .before .before .before .before .before .before .before .before .before .before .before .before .before .before .args .file .now) (λ i. omega (arith, c .before .before .before .before .before .before .before .before .before .before .before .before .before .before .before .before .before .before .before .before .before .before .before .before .before .before .before .before .before .before .shared-slice-known .given i))),
       (
-        handed .0 ∙ ap (λ (l : Lot). laidOver (l .nodes) (s .args .nodes .now)) whole,
+        handed .0 ∙ ap (λ (x : Runs). laidOver (x .nodes) (c .before .before .before .before .before .before .before .before .before .before .before .before .before .before .before .before .before .before .before .before .before .before .before .before .before .before .before .before .before .before .before .args .nodes .now)) same,
         (
-          handed .1 ∙ ap (λ (l : Lot). laidOver (l .elements) (s .args .elements .now)) whole,
+          handed .1 .0 ∙ ap (λ (x : Runs). laidOver (x .elements) (c .before .before .before .before .before .before .before .before .before .before .before .before .before .before .before .before .before .before .before .before .before .before .before .before .before .before .before .before .before .before .before .args .elements .now)) same,
           (
-            ap₂ (λ (a b : ℕ). 0 ∷ a ∷ b ∷ []) nodes elements ∙ ap readingNumbers (sym (held .good)),
-            ap (λ (k : ℕ). (s .args .file .ptr .0, k + s .args .file .ptr .1)) (sym (ap labelPlace (held .good))),
+            handed .1 .1 .0 ∙ ap (λ (x : Runs). laidOver (x .names) (c .before .before .before .before .before .before .before .before .before .before .before .before .before .before .before .before .before .before .before .before .before .before .before .before .before .before .before .before .before .before .before .args .names .now)) same,
+            (
+              handed .1 .1 .1 .0 ∙ ap (λ (x : Runs). laidOver (x .lengths) (c .before .before .before .before .before .before .before .before .before .before .before .before .before .before .before .before .before .before .before .before .before .before .before .before .before .before .before .before .before .before .before .args .lengths .now)) same,
+              (
+                handed .1 .1 .1 .1 ∙ ap (λ (x : Runs). laidOver (x .befores) (c .before .before .before .before .before .before .before .before .before .before .before .before .before .before .before .before .before .before .before .before .before .before .before .before .before .before .before .before .before .before .before .args .befores .now)) same,
+                (read-numbers _ _ _ told, ap (λ (k : ℕ). (c .before .before .before .before .before .before .before .before .before .before .before .before .before .before .before .before .before .before .before .before .before .before .before .before .before .before .before .before .before .before .before .args .file .ptr .0, k + c .before .before .before .before .before .before .before .before .before .before .before .before .before .before .before .before .before .before .before .before .before .before .before .before .before .before .before .before .before .before .before .args .file .ptr .1)) (sym (read-place _ _ _ told))),
+              ),
+            ),
           ),
         ),
       ),
@@ -128,6 +122,8 @@ read-spec =
     hand-out-requires
     cast-node-count
     cast-element-count
+    cast-group-count
+    cast-name-bytes
     add-end
     sub-result-2
     part-result-start-2
@@ -135,4 +131,7 @@ read-spec =
     returns
     same-length
     same-length-2
+    same-length-3
+    same-length-4
+    same-length-5
     returns-2)

@@ -9,7 +9,7 @@ use Rattle.lotfile.specs.Format.{lotFile}
 use Rattle.lotfile.specs.Steps.{read-long}
 use Rattle.entry.specs.Meaning.{stageHeld, entryHeld, Within}
 use Rattle.lot.specs.Meaning.{scanOf}
-use Rattle.lot.proofs.Seen.{Seen, seen-start, seen-faulty, seen-whole, seen-more, seen-end, seen-few}
+use Rattle.lot.proofs.Seen.{Seen, seen-start, seen-faulty, seen-whole, seen-more, seen-end, seen-small}
 use Rattle.lot.proofs.scan_file.Statement.{statement}
 use Rattle.lot.proofs.scan_file.Tie as tie
 
@@ -22,8 +22,11 @@ abbrev μ-loop : tie.MeasureT-loop
 returns : tie.Need-returns Inv-loop μ-loop
 returns c = (sym (ap scanOf (read-long lotFile _ (c .if1 .taken))), tt)
 
+nothing-requires : tie.Need-nothing-requires Inv-loop μ-loop
+nothing-requires c κs = search needs
+
 loop-holds : tie.Need-loop-holds Inv-loop μ-loop
-loop-holds c = (omega arith, seen-start _ (omega arith))
+loop-holds c = (omega arith, subst (Seen _ 0 _) (sym (c .nothing .ensures)) (seen-start _ (omega arith)))
 
 has-ended-requires : tie.Need-has-ended-requires Inv-loop μ-loop
 has-ended-requires c κs = search needs
@@ -46,8 +49,10 @@ enum-known-entry-2 c = search needs
 counted-requires : tie.Need-counted-requires Inv-loop μ-loop
 counted-requires c κs =
     let x = c .before .before .before .before .before .before .loop .inv in
-    let few = seen-few _ (x .1) (x .0) in
-    (few .1, few .2)
+    let at = c .before .before .before .before .before .before .loop .at in
+    let file = c .before .before .before .before .before .before .before .before .before .before .args .file .now in
+    let room : 4 + c .before .entry2 .given .0 .1 .0 ≤ length (drop at file) = subst (Within (drop at file)) (c .before .entry2 .given .1) (c .before .before .before .entry-at .ensures .1) in
+    seen-small _ _ (x .1) (x .0) (omega (arith, x .0, length-drop at file))
 
 add-at : tie.Need-add-at Inv-loop μ-loop
 add-at c =
@@ -58,7 +63,7 @@ add-at-2 : tie.Need-add-at-2 Inv-loop μ-loop
 add-at-2 c =
     let x = c .before .before .before .before .before .before .before .loop .inv in
     let at = c .before .before .before .before .before .before .before .loop .at in
-    let file = c .before .before .before .before .before .before .before .before .before .before .args .file .now in
+    let file = c .before .before .before .before .before .before .before .before .before .before .before .args .file .now in
     let room : 4 + c .before .before .entry2 .given .0 .1 .0 ≤ length (drop at file) = subst (Within (drop at file)) (c .before .before .entry2 .given .1) (c .before .before .before .before .entry-at .ensures .1) in
     omega (arith, x .0, x .1 .reached .within, length-drop at file)
 
@@ -69,7 +74,7 @@ loop-less : tie.Need-loop-less Inv-loop μ-loop
 loop-less c =
     let x = c .before .before .before .before .before .before .before .before .loop .inv in
     let at = c .before .before .before .before .before .before .before .before .loop .at in
-    let file = c .before .before .before .before .before .before .before .before .before .before .before .args .file .now in
+    let file = c .before .before .before .before .before .before .before .before .before .before .before .before .args .file .now in
     let room : 4 + c .before .before .before .entry2 .given .0 .1 .0 ≤ length (drop at file) = subst (Within (drop at file)) (c .before .before .before .entry2 .given .1) (c .before .before .before .before .before .entry-at .ensures .1) in
     omega (arith, x .1 .reached .within, length-drop at file)
 
@@ -77,7 +82,7 @@ loop-again : tie.Need-loop-again Inv-loop μ-loop
 loop-again c =
     let x = c .before .before .before .before .before .before .before .before .loop .inv in
     let at = c .before .before .before .before .before .before .before .before .loop .at in
-    let file = c .before .before .before .before .before .before .before .before .before .before .before .args .file .now in
+    let file = c .before .before .before .before .before .before .before .before .before .before .before .before .args .file .now in
     let room : 4 + c .before .before .before .entry2 .given .0 .1 .0 ≤ length (drop at file) = subst (Within (drop at file)) (c .before .before .before .entry2 .given .1) (c .before .before .before .before .before .entry-at .ensures .1) in
     let unread = sym (c .before .before .before .before .before .before .before .has-ended .ensures) ∙ not-true _ (c .before .before .before .before .before .before .if2 .taken) in
     let found = sym (c .before .before .before .before .before .entry-at .ensures .0) ∙ ap (entryHeld _) (c .before .before .before .entry2 .given .1) in
@@ -92,7 +97,7 @@ returns-4 : tie.Need-returns-4 Inv-loop μ-loop
 returns-4 c =
     let ended = sym (c .before .before .has-ended .ensures) ∙ not-false _ (c .before .if2 .left) in
     let x = c .before .before .before .loop .inv in
-    (sym (seen-end _ (x .1) ended (c .if3 .left)), seen-few _ (x .1) (x .0))
+    (sym (seen-end _ (x .1) ended (c .if3 .left)), seen-small _ 0 (x .1) (x .0) (omega arith))
 
 pub scan-file-spec : {M : Type 1} → statement M
 scan-file-spec =
@@ -101,6 +106,7 @@ scan-file-spec =
     Inv-loop
     μ-loop
     returns
+    nothing-requires
     loop-holds
     has-ended-requires
     entry-at-requires

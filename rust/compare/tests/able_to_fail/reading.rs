@@ -1,14 +1,12 @@
 //! Readers of lot files that are wrong in one thing.
 
-use crate::{finds_it_again, small_plan};
-use compare::program::{Address, Answer, Lot, Move, Product, Program, Second};
-use compare::run::{run_lots, Pair};
-use second::lot::Mark;
+use crate::{alike, all_are_caught, ask_service, is_caught_alike};
+use compare::lots::READING;
+use compare::program::{Lent, Program, ReadLot, Reads, SECOND};
+use second::lot::{Lot, Mark, Space};
 use std::ops::Range;
 
-/// What is wrong.
-#[derive(Clone, Copy, Debug, PartialEq)]
-enum Fault {
+faults! {
     // order of the tests
     MarkBeforeHead,
     LengthBeforePlace,
@@ -25,6 +23,7 @@ enum Fault {
     FileLengthOf17Bits,
     ThousandthRefused,
     OneElementMore,
+    GroupsAreCounted,
     LabelOf33,
     LabelNotOf32,
     Label31Accepted,
@@ -33,6 +32,10 @@ enum Fault {
     Label127Accepted,
     LastLabelByteNotTested,
     EmptyLabelRefused,
+    NameOf33,
+    NameNotOf32,
+    NameByteNotTested,
+    EmptyNameRefused,
     // records
     MarksInAnyCase,
     MarkByFirstLetter,
@@ -47,14 +50,29 @@ enum Fault {
     AfterEndIgnored,
     AfterEndReadOn,
     ShortTailIgnored,
+    // groups among the records
+    GroupUnknown,
+    GroupBeforeElementsRefused,
+    GroupAfterElementsRefused,
+    SecondGroupRefused,
+    ElementAfterGroupRefused,
+    EndAfterGroupRefused,
+    LabelAfterGroup,
+    NodesAfterGroup,
     // lent space
     SpaceMustBeExact,
     OneNodeWordMissing,
     OneElementWordMissing,
+    OneNameByteMissing,
+    OneLengthMissing,
+    OneBeforeMissing,
     OneWordToSpareNeeded,
     // what is handed out
     NodesOfARefusal,
     ElementsOfARefusal,
+    NamesOfARefusal,
+    LengthsOfARefusal,
+    BeforesOfARefusal,
     CountsOfARefusal,
     LabelOfARefusal,
     LabelShortened,
@@ -71,97 +89,60 @@ enum Fault {
     LastElementNotWritten,
     NodesClearedPast,
     ElementsClearedPast,
+    NamesClearedPast,
+    LengthsClearedPast,
+    BeforesClearedPast,
     NodesCountedInWords,
     CountsExchanged,
+    GroupsCountedInBytes,
+    EmptyGroupsDropped,
+    GroupAfterTheLastDropped,
+    OneGroupToAPlace,
+    BeforesFromOne,
+    BeforesInWords,
+    LengthsWithTheHead,
+    NamesApart,
     // sham versions
     RefusesAll,
     AcceptsAll,
     WritesNothing,
 }
 
-const FAULTS: [Fault; 62] = [
-    Fault::MarkBeforeHead,
-    Fault::LengthBeforePlace,
-    Fault::CutBeforeLength,
-    Fault::LabelByteBeforeCut,
-    Fault::CountBeforeLength,
-    Fault::CountBeforeCut,
-    Fault::FileTooLongLast,
-    Fault::SpaceBeforeTheRest,
-    Fault::SpaceBeforeAll,
-    Fault::OneByteMore,
-    Fault::OneByteLess,
-    Fault::FileLengthOf17Bits,
-    Fault::ThousandthRefused,
-    Fault::OneElementMore,
-    Fault::LabelOf33,
-    Fault::LabelNotOf32,
-    Fault::Label31Accepted,
-    Fault::Label32Refused,
-    Fault::Label126Refused,
-    Fault::Label127Accepted,
-    Fault::LastLabelByteNotTested,
-    Fault::EmptyLabelRefused,
-    Fault::MarksInAnyCase,
-    Fault::MarkByFirstLetter,
-    Fault::LengthOfOneByte,
-    Fault::LengthHighByteFirst,
-    Fault::LongerBodiesTaken,
-    Fault::NoLabel,
-    Fault::SecondLabel,
-    Fault::NodesAfterElements,
-    Fault::NoNodesRefused,
-    Fault::MissingEndAccepted,
-    Fault::AfterEndIgnored,
-    Fault::AfterEndReadOn,
-    Fault::ShortTailIgnored,
-    Fault::SpaceMustBeExact,
-    Fault::OneNodeWordMissing,
-    Fault::OneElementWordMissing,
-    Fault::OneWordToSpareNeeded,
-    Fault::NodesOfARefusal,
-    Fault::ElementsOfARefusal,
-    Fault::CountsOfARefusal,
-    Fault::LabelOfARefusal,
-    Fault::LabelShortened,
-    Fault::LabelTrimmed,
-    Fault::LabelOneLate,
-    Fault::LabelCopied,
-    Fault::EmptyLabelElsewhere,
-    Fault::NodesHighByteFirst,
-    Fault::ElementsHighByteFirst,
-    Fault::SignLost,
-    Fault::NegativeIsZero,
-    Fault::AxesExchanged,
-    Fault::LastNodeNotWritten,
-    Fault::LastElementNotWritten,
-    Fault::NodesClearedPast,
-    Fault::ElementsClearedPast,
-    Fault::NodesCountedInWords,
-    Fault::CountsExchanged,
-    Fault::RefusesAll,
-    Fault::AcceptsAll,
-    Fault::WritesNothing,
-];
-
 /// A reader with one fault, or without one.
 struct Wrong(Option<Fault>);
 
-/// The tests of a record, by 02's order: head, mark, place, length, body, label
-/// bytes, number of elements.
+/// The tests of a record, by 02's order: head, mark, place, length, body, bytes of
+/// a label or name, number of elements.
 const NUMBERS: [u32; 7] = [21, 22, 24, 23, 21, 25, 26];
+
+/// The lent runs, by their places in `Space`.
+const NODES: usize = 0;
+const ELEMENTS: usize = 1;
+const NAMES: usize = 2;
+const LENGTHS: usize = 3;
+const BEFORES: usize = 4;
 
 /// What has been read so far.
 #[derive(Default)]
 struct Seen {
     label: Range<usize>,
-    nodes: Vec<i32>,
-    elements: Vec<u32>,
+    lot: Lot,
+}
+
+impl Seen {
+    fn elements(&self) -> usize {
+        self.lot.elements.len() / 8
+    }
 }
 
 impl Wrong {
     fn is(&self, fault: Fault) -> bool {
         self.0 == Some(fault)
+    }
+
+    /// The place of this reader's fault in a list.
+    fn place_in(&self, faults: [Fault; 5]) -> Option<usize> {
+        faults.into_iter().position(|fault| self.is(fault))
     }
 
     /// The order of the tests of a record.
@@ -193,6 +174,7 @@ impl Wrong {
         }
         let same = |mark: &Mark| match self.0 {
             Some(Fault::MarkByFirstLetter) => mark.bytes()[0] == bytes[0],
+            Some(Fault::GroupUnknown) if *mark == Mark::Group => false,
             _ => mark.bytes() == bytes,
         };
         Mark::ALL.into_iter().find(same)
@@ -208,14 +190,22 @@ impl Wrong {
     }
 
     fn out_of_place(&self, mark: Mark, before: Option<Mark>) -> bool {
+        use Mark::{Element, End, Group, Label, Node};
         match (self.0, before, mark) {
             (Some(Fault::NoLabel), None, _) => false,
-            (Some(Fault::SecondLabel), Some(Mark::Label), Mark::Label) => false,
-            (Some(Fault::NodesAfterElements), Some(Mark::Element), Mark::Node) => false,
-            (Some(Fault::NoNodesRefused), Some(Mark::Label), Mark::Element) => true,
-            (_, None, _) => mark != Mark::Label,
-            (_, Some(Mark::Element), Mark::Node) => true,
-            _ => mark == Mark::Label,
+            (Some(Fault::SecondLabel), Some(Label), Label) => false,
+            (Some(Fault::NodesAfterElements), Some(Element), Node) => false,
+            (Some(Fault::NoNodesRefused), Some(Label), Element) => true,
+            (Some(Fault::GroupBeforeElementsRefused), Some(Label | Node), Group) => true,
+            (Some(Fault::GroupAfterElementsRefused), Some(Element), Group) => true,
+            (Some(Fault::SecondGroupRefused), Some(Group), Group) => true,
+            (Some(Fault::ElementAfterGroupRefused), Some(Group), Element) => true,
+            (Some(Fault::EndAfterGroupRefused), Some(Group), End) => true,
+            (Some(Fault::LabelAfterGroup), Some(Group), Label) => false,
+            (Some(Fault::NodesAfterGroup), Some(Group), Node) => false,
+            (_, None, _) => mark != Label,
+            (_, Some(Element | Group), Node) => true,
+            _ => mark == Label,
         }
     }
 
@@ -224,18 +214,23 @@ impl Wrong {
             (Some(Fault::LabelOf33), Mark::Label) => length > 33,
             (Some(Fault::LabelNotOf32), Mark::Label) => length > 31,
             (Some(Fault::EmptyLabelRefused), Mark::Label) => length == 0 || length > 32,
+            (Some(Fault::NameOf33), Mark::Group) => length > 33,
+            (Some(Fault::NameNotOf32), Mark::Group) => length > 31,
+            (Some(Fault::EmptyNameRefused), Mark::Group) => length == 0 || length > 32,
             (Some(Fault::LongerBodiesTaken), Mark::Node) => length < 12,
             (Some(Fault::LongerBodiesTaken), Mark::Element) => length < 32,
             (Some(Fault::LongerBodiesTaken), Mark::End) => false,
-            (_, Mark::Label) => length > 32,
+            (_, Mark::Label | Mark::Group) => length > 32,
             (_, Mark::Node) => length != 12,
             (_, Mark::Element) => length != 32,
             (_, Mark::End) => length != 0,
         }
     }
 
-    fn wrong_label(&self, label: &[u8]) -> bool {
+    /// Whether a label or name has a wrong byte.
+    fn wrong_byte(&self, mark: Mark, label: &[u8]) -> bool {
         let (low, high) = match self.0 {
+            Some(Fault::NameByteNotTested) if mark == Mark::Group => (0, 255),
             Some(Fault::Label31Accepted) => (31, 126),
             Some(Fault::Label32Refused) => (33, 126),
             Some(Fault::Label126Refused) => (32, 125),
@@ -247,10 +242,12 @@ impl Wrong {
         label[..tested].iter().any(|byte| !(low..=high).contains(byte))
     }
 
-    fn one_too_many(&self, elements: usize) -> bool {
+    fn one_too_many(&self, seen: &Seen) -> bool {
+        let elements = seen.elements();
         match self.0 {
             Some(Fault::ThousandthRefused) => elements >= 999,
             Some(Fault::OneElementMore) => elements >= 1001,
+            Some(Fault::GroupsAreCounted) => elements + seen.lot.groups.lengths.len() >= 1000,
             _ => elements >= 1000,
         }
     }
@@ -261,20 +258,21 @@ impl Wrong {
         &self,
         rest: &'a [u8],
         before: Option<Mark>,
-        elements: usize,
+        seen: &Seen,
     ) -> Result<(Mark, &'a [u8]), u32> {
         let mark = self.mark(rest);
         let length = self.length(rest);
         let body = rest.get(4..4 + length);
         let there = body.or(rest.get(4..)).unwrap_or(&[]);
+        let named = mark.filter(|mark| matches!(mark, Mark::Label | Mark::Group));
         let faults = [
             rest.len() < 4,
             mark.is_none(),
             mark.is_some_and(|mark| self.out_of_place(mark, before)),
             mark.is_some_and(|mark| self.wrong_length(mark, length)),
             body.is_none(),
-            mark == Some(Mark::Label) && self.wrong_label(there),
-            mark == Some(Mark::Element) && self.one_too_many(elements),
+            named.is_some_and(|mark| self.wrong_byte(mark, there)),
+            mark == Some(Mark::Element) && self.one_too_many(seen),
         ];
         match self.order().into_iter().find(|&test| faults[test]) {
             Some(test) => Err(NUMBERS[test]),
@@ -301,43 +299,73 @@ impl Wrong {
         }
     }
 
+    fn take_group(&self, seen: &mut Seen, name: &[u8]) {
+        let before = seen.elements() as u32;
+        let groups = &mut seen.lot.groups;
+        match self.0 {
+            Some(Fault::EmptyGroupsDropped) if name.is_empty() => {}
+            Some(Fault::OneGroupToAPlace) if groups.befores.last() == Some(&before) => {}
+            Some(Fault::BeforesFromOne) => groups.push(before + 1, name),
+            Some(Fault::BeforesInWords) => groups.push(8 * before, name),
+            _ => groups.push(before, name),
+        }
+        match self.0 {
+            Some(Fault::LengthsWithTheHead) => {
+                groups.lengths.last_mut().into_iter().for_each(|length| *length += 4);
+            }
+            Some(Fault::NamesApart) => groups.names.push(0),
+            _ => {}
+        }
+    }
+
     fn take(&self, seen: &mut Seen, mark: Mark, body: &[u8], at: usize) {
+        let lot = &mut seen.lot;
         match mark {
             Mark::Label => seen.label = at..at + body.len(),
             Mark::Node => {
                 let words = body[..12].chunks_exact(4).map(|four| self.node_word(four));
-                seen.nodes.extend(words);
+                lot.nodes.extend(words);
                 if self.is(Fault::AxesExchanged) {
-                    let last = seen.nodes.len() - 1;
-                    seen.nodes.swap(last, last - 1);
+                    let last = lot.nodes.len() - 1;
+                    lot.nodes.swap(last, last - 1);
                 }
             }
             Mark::Element => {
                 let words = body[..32].chunks_exact(4).map(|four| self.element_word(four));
-                seen.elements.extend(words);
+                lot.elements.extend(words);
+            }
+            Mark::Group => self.take_group(seen, body),
+            Mark::End if self.is(Fault::GroupAfterTheLastDropped) => {
+                let last = lot.elements.len() as u32 / 8;
+                lot.groups.befores.retain(|&before| before < last);
+                lot.groups.lengths.truncate(lot.groups.befores.len());
+                let kept: u32 = lot.groups.lengths.iter().sum();
+                lot.groups.names.truncate(kept as usize);
             }
             Mark::End => {}
         }
     }
 
     /// Whether what has been read so far does not fit.
-    fn no_space(&self, seen: &Seen, nodes: usize, elements: usize) -> bool {
-        let (need_nodes, need_elements) = (seen.nodes.len(), seen.elements.len());
+    fn no_space(&self, seen: &Seen, space: Space) -> bool {
+        let needs = seen.lot.needs();
+        let missing = self.place_in([
+            Fault::OneNodeWordMissing,
+            Fault::OneElementWordMissing,
+            Fault::OneNameByteMissing,
+            Fault::OneLengthMissing,
+            Fault::OneBeforeMissing,
+        ]);
+        let too_small = |run: usize| needs[run] > space[run] + usize::from(missing == Some(run));
         match self.0 {
-            Some(Fault::SpaceMustBeExact) => need_nodes != nodes || need_elements != elements,
-            Some(Fault::OneNodeWordMissing) => need_nodes > nodes + 1 || need_elements > elements,
-            Some(Fault::OneElementWordMissing) => {
-                need_nodes > nodes || need_elements > elements + 1
-            }
-            Some(Fault::OneWordToSpareNeeded) => {
-                (need_nodes > 0 && need_nodes >= nodes) || need_elements > elements
-            }
-            _ => need_nodes > nodes || need_elements > elements,
+            Some(Fault::SpaceMustBeExact) => needs != space,
+            Some(Fault::OneWordToSpareNeeded) if needs[NODES] > 0 => needs[NODES] >= space[NODES],
+            _ => (0..needs.len()).any(too_small),
         }
     }
 
     /// 0 or the number of the refusal; `seen` is filled up to there.
-    fn read(&self, file: &[u8], nodes: usize, elements: usize, seen: &mut Seen) -> u32 {
+    fn read(&self, file: &[u8], space: Space, seen: &mut Seen) -> u32 {
         let too_long = self.too_long(file.len());
         if too_long && !self.is(Fault::FileTooLongLast) {
             return 20;
@@ -347,7 +375,7 @@ impl Wrong {
             if self.is(Fault::MissingEndAccepted) && before.is_some() && at == file.len() {
                 break;
             }
-            match self.record(&file[at..], before, seen.elements.len() / 8) {
+            match self.record(&file[at..], before, seen) {
                 Err(number) => return number,
                 Ok((mark, body)) => {
                     self.take(seen, mark, body, at + 4);
@@ -355,11 +383,11 @@ impl Wrong {
                     before = Some(mark);
                 }
             }
-            if self.is(Fault::SpaceBeforeAll) && self.no_space(seen, nodes, elements) {
+            if self.is(Fault::SpaceBeforeAll) && self.no_space(seen, space) {
                 return 27;
             }
         }
-        let no_space = self.no_space(seen, nodes, elements);
+        let no_space = self.no_space(seen, space);
         if no_space && self.is(Fault::SpaceBeforeTheRest) {
             return 27;
         }
@@ -396,110 +424,99 @@ impl Wrong {
         }
     }
 
-    /// What has been read, written to the front of the lent space.
-    fn hand_out(&self, seen: &Seen, number: u32, nodes: &mut [i32], elements: &mut [u32]) {
-        let (some_nodes, some_elements) =
-            (seen.nodes.len().min(nodes.len()), seen.elements.len().min(elements.len()));
-        let written_nodes = match self.0 {
-            Some(Fault::LastNodeNotWritten) if some_nodes > 3 => some_nodes - 3,
-            Some(Fault::ElementsOfARefusal) if number != 0 => 0,
-            Some(Fault::WritesNothing) => 0,
-            _ => some_nodes,
-        };
-        let written_elements = match self.0 {
-            Some(Fault::LastElementNotWritten) if some_elements > 8 => some_elements - 8,
-            Some(Fault::NodesOfARefusal) if number != 0 => 0,
-            Some(Fault::WritesNothing) => 0,
-            _ => some_elements,
-        };
-        nodes[..written_nodes].copy_from_slice(&seen.nodes[..written_nodes]);
-        elements[..written_elements].copy_from_slice(&seen.elements[..written_elements]);
-        if self.is(Fault::NodesClearedPast) {
-            nodes[some_nodes..].fill(0);
-        }
-        if self.is(Fault::ElementsClearedPast) {
-            elements[some_elements..].fill(0);
+    /// How much of a run is written, of what was seen and fits.
+    fn written(&self, run: usize, number: u32, some: usize) -> usize {
+        let of_a_refusal = self.place_in([
+            Fault::NodesOfARefusal,
+            Fault::ElementsOfARefusal,
+            Fault::NamesOfARefusal,
+            Fault::LengthsOfARefusal,
+            Fault::BeforesOfARefusal,
+        ]);
+        match (self.0, run) {
+            _ if number != 0 && of_a_refusal != Some(run) => 0,
+            (Some(Fault::LastNodeNotWritten), NODES) => some.saturating_sub(3),
+            (Some(Fault::LastElementNotWritten), ELEMENTS) => some.saturating_sub(8),
+            (Some(Fault::WritesNothing), _) => 0,
+            _ => some,
         }
     }
 
-    fn counts(&self, number: u32, seen: &Seen) -> (u32, u32) {
-        let (nodes, elements) = (seen.nodes.len() as u32 / 3, seen.elements.len() as u32 / 8);
+    /// What has been read of one run, written to the front of its space.
+    fn hand_out<T: Copy + Default>(&self, run: usize, number: u32, seen: &[T], space: &mut [T]) {
+        let some = seen.len().min(space.len());
+        let written = self.written(run, number, some);
+        space[..written].copy_from_slice(&seen[..written]);
+        let cleared = self.place_in([
+            Fault::NodesClearedPast,
+            Fault::ElementsClearedPast,
+            Fault::NamesClearedPast,
+            Fault::LengthsClearedPast,
+            Fault::BeforesClearedPast,
+        ]);
+        if number == 0 && cleared == Some(run) {
+            space[some..].fill(T::default());
+        }
+    }
+
+    /// The numbers of nodes, elements and groups, and the bytes of names.
+    fn counts(&self, number: u32, seen: &Seen) -> [u32; 4] {
+        let [nodes, elements, names, groups, _] = seen.lot.needs().map(|need| need as u32);
+        let (nodes, elements) = (nodes / 3, elements / 8);
         match self.0 {
-            Some(Fault::CountsOfARefusal) => (nodes, elements),
-            _ if number != 0 => (0, 0),
-            Some(Fault::NodesCountedInWords) => (3 * nodes, elements),
-            Some(Fault::CountsExchanged) => (elements, nodes),
-            _ => (nodes, elements),
+            Some(Fault::CountsOfARefusal) => [nodes, elements, groups, names],
+            _ if number != 0 => [0; 4],
+            Some(Fault::NodesCountedInWords) => [3 * nodes, elements, groups, names],
+            Some(Fault::CountsExchanged) => [elements, nodes, groups, names],
+            Some(Fault::GroupsCountedInBytes) => [nodes, elements, names, groups],
+            _ => [nodes, elements, groups, names],
         }
     }
 }
 
-impl Program for Wrong {
-    fn read_lot<'a>(&self, file: &'a [u8], nodes: &mut [i32], elements: &mut [u32]) -> Lot<'a> {
+impl Reads for Wrong {
+    fn read_lot<'a>(&self, file: &'a [u8], lent: Lent) -> ReadLot<'a> {
+        let Lent { nodes, elements, names, lengths, befores } = lent;
         let mut seen = Seen::default();
-        let number = match (self.0, self.read(file, nodes.len(), elements.len(), &mut seen)) {
+        let space = [nodes.len(), elements.len(), names.len(), lengths.len(), befores.len()];
+        let number = match (self.0, self.read(file, space, &mut seen)) {
             (Some(Fault::RefusesAll), _) => 22,
             (Some(Fault::AcceptsAll), _) => 0,
             (_, number) => number,
         };
-        let handed_out = [Fault::NodesOfARefusal, Fault::ElementsOfARefusal];
-        if number == 0 || handed_out.into_iter().any(|fault| self.is(fault)) {
-            self.hand_out(&seen, number, nodes, elements);
-        }
-        let (nodes, elements) = self.counts(number, &seen);
-        Lot { number, nodes, elements, label: self.label(file, number, seen.label) }
-    }
-
-    fn inspect(&self, points: &[i32], indices: &[u32], depth: u32, report: &mut [i64]) -> Answer {
-        Second.inspect(points, indices, depth, report)
-    }
-
-    fn bounds(&self, points: &[i32; 24], depth: u32) -> (u32, i64, i64) {
-        Second.bounds(points, depth)
-    }
-
-    fn stamp(&self, answer: Answer) -> u32 {
-        Second.stamp(answer)
-    }
-
-    fn child(&self, address: Address, n: u32) -> Move {
-        Second.child(address, n)
-    }
-
-    fn corner(&self, address: Address, n: u32) -> Move {
-        Second.corner(address, n)
-    }
-
-    fn parent(&self, address: Address) -> Move {
-        Second.parent(address)
+        let Lot { nodes: seen_nodes, elements: seen_elements, groups, .. } = &seen.lot;
+        self.hand_out(NODES, number, seen_nodes, nodes);
+        self.hand_out(ELEMENTS, number, seen_elements, elements);
+        self.hand_out(NAMES, number, &groups.names, names);
+        self.hand_out(LENGTHS, number, &groups.lengths, lengths);
+        self.hand_out(BEFORES, number, &groups.befores, befores);
+        let [nodes, elements, groups, names] = self.counts(number, &seen);
+        let label = self.label(file, number, seen.label);
+        ReadLot { number, nodes, elements, groups, names, label }
     }
 }
 
-/// The reader without a fault is right: what is caught below is the fault.
-#[test]
-fn the_reader_without_a_fault_is_not_caught() {
-    let pair = Pair { first: &Product, second: &Wrong(None) };
-    assert_eq!(run_lots(pair, small_plan(), drop), Ok(()));
+fn within(reader: &Wrong) -> Program<'_> {
+    Program { reads: reader, ..SECOND }
 }
 
-/// Each wrong reader is caught, and the question that is printed catches it
-/// again.
 #[test]
 fn every_faulty_reader_is_caught() {
-    for fault in FAULTS {
-        let pair = Pair { first: &Product, second: &Wrong(Some(fault)) };
-        let Err(found) = run_lots(pair, small_plan(), drop) else {
-            panic!("{fault:?} was not caught");
-        };
-        println!("{fault:?}: {}", found.what);
-        finds_it_again(pair, &found);
+    all_are_caught(&READING, FAULTS, Wrong, within);
+}
+
+/// Readers that lose the same are caught where the lot is written back.
+#[test]
+fn readers_that_are_wrong_alike_are_caught() {
+    for fault in [Fault::EmptyGroupsDropped, Fault::GroupAfterTheLastDropped, Fault::SignLost] {
+        let reader = Wrong(Some(fault));
+        is_caught_alike(within(&reader), &READING, "not written back byte for byte");
     }
 }
 
 /// Two readers that agree are not enough: every number has to be met.
 #[test]
-#[should_panic(expected = "no lot of number 0 was met")]
+#[should_panic(expected = "no number 0 was met")]
 fn every_number_has_to_be_met() {
-    let refuses_all = Wrong(Some(Fault::RefusesAll));
-    let _ = run_lots(Pair { first: &refuses_all, second: &refuses_all }, small_plan(), drop);
+    let _ = ask_service(alike(within(&Wrong(Some(Fault::RefusesAll)))), &READING);
 }

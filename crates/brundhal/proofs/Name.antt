@@ -1,0 +1,38 @@
+-- The numbers that tell an element's name, by the part of the names that is in force. Assumes nothing.
+use mathlib.Core.Path.{_≡_, refl, sym, _∙_, ap, ap₂}
+use mathlib.Core.Bool.{Bool, true, false}
+use mathlib.Core.List.{List, [], _∷_}
+use Prim.Native.Nat.{ℕ, _+_, _≤_}
+use native.Mathlib.Omega.{arith}
+use lib.ListN.{length, take, drop, length-drop}
+use lib.Seq.{length-take-le, take-length}
+use Rattle.lotfile.specs.Format.{Group}
+use Rattle.lotfile.specs.Naming.{nameInForce, placeInForce, isEmpty, nameOf}
+use Rattle.brundhal.specs.Meaning.{nameNumbers}
+
+empty-is : (xs : List ℕ) → length xs ≡ 0 → isEmpty xs ≡ true
+empty-is [] e = refl
+empty-is (x ∷ xs) e = absurd (omega arith)
+
+other-is : (xs : List ℕ) → (length xs ≡ 0 → ⊥) → isEmpty xs ≡ false
+other-is [] h = absurd (h refl)
+other-is (x ∷ xs) h = refl
+
+module _ (label names : List ℕ) (gs : List Group) (e start len : ℕ) (within : start + len ≤ length names)
+    (name : take len (drop start names) ≡ nameInForce [] gs e) (place : start ≡ placeInForce 0 0 gs e) where
+  long : length (nameInForce [] gs e) ≡ len
+  long = sym (ap length name) ∙ length-take-le len (drop start names) (simp length-drop (omega arith))
+
+  abbrev numbersBy : Bool → List ℕ
+  numbersBy b = elim b [ true ↦ 0 ∷ 0 ∷ length label ∷ [] | false ↦ 1 ∷ placeInForce 0 0 gs e ∷ length (nameInForce [] gs e) ∷ [] ]
+
+  abbrev nameBy : Bool → List ℕ
+  nameBy b = elim b [ true ↦ label | false ↦ nameInForce [] gs e ]
+
+  pub label-told : len ≡ 0 → (0 ∷ 0 ∷ length label ∷ [] ≡ nameNumbers label gs e) × (take (length label) label ≡ nameOf label gs e)
+  label-told z = let empty = empty-is (nameInForce [] gs e) (long ∙ z) in (sym (ap numbersBy empty), take-length label ∙ sym (ap nameBy empty))
+
+  pub name-told : (len ≡ 0 → ⊥) → (1 ∷ start ∷ len ∷ [] ≡ nameNumbers label gs e) × (take len (drop start names) ≡ nameOf label gs e)
+  name-told z =
+      let other = other-is (nameInForce [] gs e) (λ h. z (sym long ∙ h)) in
+      (ap₂ (λ (a b : ℕ). 1 ∷ a ∷ b ∷ []) place (sym long) ∙ sym (ap numbersBy other), name ∙ sym (ap nameBy other))

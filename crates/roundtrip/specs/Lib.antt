@@ -1,0 +1,9 @@
+pub mod Examples
+pub mod Lengths
+pub mod NumbersBack
+pub mod EntryBack
+pub mod LotBack
+pub mod Tests
+pub mod RunsLawful
+pub mod Promise
+pub mod Ample

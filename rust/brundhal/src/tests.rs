@@ -1,0 +1,214 @@
+//! The wrapper over the library: layouts, and each call's answer and lent space.
+
+use super::*;
+use std::mem::{align_of, offset_of, size_of};
+
+/// The layout that include/brundhal.h declares.
+#[test]
+fn layout() {
+    assert_eq!((size_of::<Inspection>(), align_of::<Inspection>()), (20, 4));
+    assert_eq!((size_of::<Bounds>(), align_of::<Bounds>()), (24, 8));
+    assert_eq!((offset_of!(Bounds, low), offset_of!(Bounds, high)), (8, 16));
+    assert_eq!((size_of::<Address>(), align_of::<Address>()), (16, 4));
+    assert_eq!((size_of::<raw::Move>(), align_of::<raw::Move>()), (20, 4));
+    assert_eq!((size_of::<raw::Lot>(), align_of::<raw::Lot>()), (28, 4));
+    assert_eq!((size_of::<Written>(), align_of::<Written>()), (8, 4));
+    assert_eq!((size_of::<raw::Name>(), align_of::<raw::Name>()), (24, 8));
+    assert_eq!((offset_of!(raw::Name, start), offset_of!(raw::Name, len)), (8, 16));
+}
+
+#[test]
+fn empty_runs_are_taken() {
+    assert_eq!(inspect(&[], &[], 3, &mut []), Inspection::default());
+    assert_eq!(inspect(&[], &[], 4, &mut []).number, 1);
+    assert_eq!(inspect(&[0], &[], 3, &mut []).number, 2);
+    assert_eq!(inspect(&[], &[0], 3, &mut []).number, 3);
+    assert_eq!(inspect(&[], &[], 3, &mut [0]).number, 4);
+    let none = Groups::default;
+    assert_eq!(read_lot(&[], &mut [], &mut [], GroupSpace::default()).number, 21);
+    assert_eq!(read_lot(EMPTY, &mut [], &mut [], GroupSpace::default()).number, 0);
+    assert_eq!(write_lot(&[], &[], &[], none(), &mut []), Written { number: 27, len: 0 });
+    let mut file = [0; 8];
+    assert_eq!(write_lot(&[], &[], &[], none(), &mut file), Written { number: 0, len: 8 });
+    assert_eq!(file, EMPTY);
+    assert_eq!(name_of(&[], none(), 0), Name::Label(b""));
+}
+
+#[test]
+fn moves_of_the_whole() {
+    let child = Address { level: 1, a: 1, b: 1, c: 0 };
+    assert_eq!(Address::WHOLE.child(3), Moved::To(child));
+    assert_eq!(Address::WHOLE.corner(3), Moved::To(Address { level: 0, ..child }));
+    assert_eq!(child.parent(), Moved::To(Address::WHOLE));
+    assert_eq!(Address::WHOLE.parent(), Moved::Not(Address::WHOLE));
+    assert_eq!(Address::WHOLE.child(9), Moved::Not(Address::WHOLE));
+}
+
+#[test]
+fn bounds_of_one_point() {
+    assert_eq!(bounds(&[5; 24], 3), Bounds::default());
+    assert_eq!(bounds(&[4097; 24], 3), Bounds { number: 6, low: 0, high: 0 });
+    assert_eq!(bounds(&[4097; 24], 4), Bounds { number: 1, low: 0, high: 0 });
+}
+
+#[test]
+fn stamps() {
+    assert_eq!(stamp(Inspection::default()), Stamp::Sound);
+    assert_eq!(stamp(Inspection { undecided: 1, ..Inspection::default() }), Stamp::Sound);
+    assert_eq!(stamp(Inspection { invalid: 1, ..Inspection::default() }), Stamp::Faulty);
+    assert_eq!(stamp(Inspection { refused: 1, ..Inspection::default() }), Stamp::Faulty);
+    assert_eq!(stamp(Inspection { number: 4, ..Inspection::default() }), Stamp::Faulty);
+}
+
+/// A lot of nothing but its label's record and the end.
+const EMPTY: &[u8] = b"LB\0\0EN\0\0";
+
+/// A label, one node (1, -2, 3), no elements, and a group with a name and one
+/// without.
+const LOT: &[u8] = b"LB\x02\0P7ND\x0C\0\x01\0\0\0\xFE\xFF\xFF\xFF\x03\0\0\0GR\x01\0aGR\0\0EN\0\0";
+
+const GROUPS: Groups = Groups { names: b"a", lengths: &[1, 0], befores: &[0, 0] };
+
+/// Lent space, full of sevens.
+#[derive(Clone, Debug, PartialEq)]
+struct Space {
+    nodes: Vec<i32>,
+    elements: Vec<u32>,
+    names: Vec<u8>,
+    lengths: Vec<u32>,
+    befores: Vec<u32>,
+}
+
+impl Space {
+    fn new([nodes, elements, names, lengths, befores]: [usize; 5]) -> Space {
+        Space {
+            nodes: vec![7; nodes],
+            elements: vec![7; elements],
+            names: vec![7; names],
+            lengths: vec![7; lengths],
+            befores: vec![7; befores],
+        }
+    }
+
+    fn read<'a>(&mut self, file: &'a [u8]) -> Lot<'a> {
+        let Space { nodes, elements, names, lengths, befores } = self;
+        read_lot(file, nodes, elements, GroupSpace { names, lengths, befores })
+    }
+}
+
+#[test]
+fn lot_with_space_to_spare() {
+    let mut space = Space::new([5, 8, 2, 3, 3]);
+    let lot = space.read(LOT);
+    assert_eq!(lot, Lot { number: 0, nodes: 1, elements: 0, groups: 2, names: 1, label: b"P7" });
+    assert_eq!(lot.label.as_ptr_range(), LOT[4..6].as_ptr_range());
+    let Space { nodes, elements, names, lengths, befores } = space;
+    assert_eq!((nodes, elements), (vec![1, -2, 3, 7, 7], vec![7; 8]));
+    assert_eq!((&names[..], lengths, befores), (&b"a\x07"[..], vec![1, 0, 7], vec![0, 0, 7]));
+}
+
+#[test]
+fn refused_lots_write_nothing() {
+    let cut_short = &LOT[..LOT.len() - 1];
+    let exact = [3, 0, 1, 2, 2];
+    let too_small = [[2, 0, 1, 2, 2], [3, 0, 0, 2, 2], [3, 0, 1, 1, 2], [3, 0, 1, 2, 1]];
+    let refusals = too_small.map(|space| (LOT, space, 27));
+    for (file, lengths, number) in [(cut_short, exact, 21)].into_iter().chain(refusals) {
+        let mut space = Space::new(lengths);
+        let refused = Lot { number, nodes: 0, elements: 0, groups: 0, names: 0, label: b"" };
+        assert_eq!(space.read(file), refused);
+        assert_eq!(space, Space::new(lengths));
+    }
+    assert_eq!(Space::new(exact).read(LOT).number, 0);
+}
+
+/// No good lot is refused for want of space in space of these lengths, and none
+/// of them could be less.
+#[test]
+fn space_for_every_lot() {
+    let records =
+        |record: &[u8], count: usize| [b"LB\0\0", &record.repeat(count)[..], b"EN\0\0"].concat();
+    let mut space =
+        Space::new([LOT_NODE_WORDS, LOT_ELEMENT_WORDS, LOT_NAME_BYTES, LOT_GROUPS, LOT_GROUPS]);
+    let element = [b"HX\x20\0", &[0; 32][..]].concat();
+    let longest = [b"GR\x20\0", &[b'x'; 32][..]].concat();
+    for (record, most, number) in
+        [(&LOT[6..22], 4095, 20), (&element[..], 1000, 26), (b"GR\0\0", LOT_GROUPS, 20)]
+    {
+        assert_eq!(space.read(&records(record, most)).number, 0);
+        assert_eq!(space.read(&records(record, most + 1)).number, number);
+    }
+    let mut names = records(&longest, 1820);
+    names.splice(names.len() - 4.., *b"GR\x04\0xxxxEN\0\0");
+    assert_eq!((names.len(), space.read(&names).names as usize), (LOT_BYTES, LOT_NAME_BYTES));
+}
+
+#[test]
+fn lots_are_written() {
+    let mut file = [7; 64];
+    let written = write_lot(b"P7", &[1, -2, 3], &[], GROUPS, &mut file);
+    assert_eq!(written, Written { number: 0, len: LOT.len() as u32 });
+    assert_eq!(&file[..LOT.len()], LOT);
+    assert_eq!(file[LOT.len()..], [7; 64][LOT.len()..]);
+}
+
+/// A label, nodes, elements and groups.
+type Handed<'a> = (&'a [u8], &'a [i32], &'a [u32], Groups<'a>);
+
+#[test]
+fn lots_that_are_not_written() {
+    let long = [b'x'; 33];
+    let unfit = Groups { befores: &[0, 1], ..GROUPS };
+    let (many, full) = (vec![0; 8 * 1001], vec![0; 3 * 4096]);
+    let lots: [(u32, Handed); 7] = [
+        (2, (&long, &[0], &[0], unfit)),
+        (3, (&long, &[], &[0], unfit)),
+        (24, (&long, &[], &[], unfit)),
+        (23, (&long, &[], &many, GROUPS)),
+        (25, (b"\n", &[], &many, GROUPS)),
+        (26, (b"", &full, &many, GROUPS)),
+        (20, (b"", &full, &[], GROUPS)),
+    ];
+    for (number, (label, nodes, elements, groups)) in lots {
+        let mut file = [7; 8];
+        let written = write_lot(label, nodes, elements, groups, &mut file);
+        assert_eq!((written, file), (Written { number, len: 0 }, [7; 8]));
+    }
+    let mut file = [7; LOT.len() - 1];
+    let written = write_lot(b"P7", &[1, -2, 3], &[], GROUPS, &mut file);
+    assert_eq!((written, file), (Written { number: 27, len: 0 }, [7; LOT.len() - 1]));
+}
+
+#[test]
+fn names() {
+    let (label, names) = (&b"L"[..], &b"onethree"[..]);
+    let groups = Groups { names, lengths: &[3, 0, 5], befores: &[1, 2, 3] };
+    let named = |element: u32| name_of(label, groups, element);
+    assert_eq!([0, 2].map(named), [Name::Label(b"L"); 2]);
+    assert_eq!([1, 3].map(named), [Name::Group(b"one"), Name::Group(b"three")]);
+    assert_eq!(named(u32::MAX).bytes(), b"three");
+    assert_eq!(named(0).bytes().as_ptr_range(), label.as_ptr_range());
+    assert_eq!(named(3).bytes().as_ptr_range(), names[3..].as_ptr_range());
+}
+
+/// Names that do not reach as far as their lengths say.
+#[test]
+fn names_that_are_cut() {
+    let groups = Groups { names: b"ab", lengths: &[1, u32::MAX, 9], befores: &[0, 1, 2, 3] };
+    assert_eq!(name_of(b"L", groups, 1), Name::Group(b"b"));
+    assert_eq!(name_of(b"L", groups, 3), Name::Label(b"L"));
+}
+
+#[test]
+fn slips() {
+    let mut out = Box::new([7; SLIP_BYTES]);
+    for (file, text) in [
+        (&b"LB\x01\0xGR\0\0EN\0\0"[..], &b"lot x\ntally 0 0 0 0\nstamp sound\n"[..]),
+        (b"", b"refused 21\n"),
+    ] {
+        out.fill(7);
+        let length = slip(file, &mut out);
+        assert_eq!(&out[..length], text);
+        assert!(out[length..].iter().all(|&byte| byte == 7));
+    }
+}

@@ -1,0 +1,180 @@
+//! Lot files to print.
+
+use super::{
+    all_numbered, below, full, good, made, random_label, with_groups, Corpora, Draw, Service,
+};
+use crate::cases::cases;
+use crate::check::slip_text;
+use crate::draw::{element, element_indices, one_of, Kind};
+use crate::question::Question;
+use second::lot::Lot;
+use second::specimens::Shaker;
+
+pub const SERVICE: Service =
+    Service { name: "slips", listed, drawn: &DRAWN, count: |plan| plan.slips, met, needed };
+
+/// What a slip shows: the number of a refused lot; of another the kinds of its
+/// records, and its stamp.
+fn met(words: &[i64]) -> Vec<String> {
+    let text = String::from_utf8_lossy(&slip_text(words)).into_owned();
+    if let Some(number) = text.strip_prefix("refused ") {
+        return vec![format!("number {}", number.trim_end())];
+    }
+    let lines: Vec<&str> = text.lines().collect();
+    let [_, records @ .., _, stamp] = &lines[..] else {
+        return vec!["no slip".to_string()];
+    };
+    // the first of the eight words at the end of a line
+    let kind = |line: &&str| line.rsplit(' ').nth(7).unwrap_or("none").to_string();
+    let kinds = records.iter().map(|line| record(&kind(line)));
+    kinds.chain([stamp.to_string()]).collect()
+}
+
+fn record(kind: &str) -> String {
+    format!("records of word {kind}")
+}
+
+/// All but 27: "The program never lacks room."
+fn needed() -> Vec<String> {
+    let records = ["0", "1", "2", "5", "6"].map(record);
+    let stamps = ["stamp sound", "stamp faulty"].map(str::to_string);
+    all_numbered(20..=26).into_iter().chain(records).chain(stamps).collect()
+}
+
+fn question(lot: &Lot) -> Question {
+    Question::Slip { file: lot.file() }
+}
+
+// ------------------------------------------------------------------ listed --
+
+/// The lots of the examples.
+fn examples() -> [&'static [u8]; 3] {
+    [
+        include_bytes!("../../../../examples/unit_cube.lot"),
+        include_bytes!("../../../../examples/cube.lot"),
+        include_bytes!("../../../../examples/grouped.lot"),
+    ]
+}
+
+/// The examples, and each worked case of 01 with several labels and groups.
+fn worked() -> Vec<Question> {
+    let mut questions = examples().map(|file| Question::Slip { file: file.to_vec() }).to_vec();
+    for case in cases() {
+        for label in [&b""[..], b" ", case.name.as_bytes(), &[b'~'; 32]] {
+            let lot = Lot {
+                label: label.to_vec(),
+                nodes: case.points.to_vec(),
+                elements: case.indices.to_vec(),
+                ..Lot::default()
+            };
+            questions.push(question(&lot.clone().group(0, b"")));
+            questions.push(question(&lot.clone().group(0, b"a").group(0, b" b ").group(1, b"c")));
+            questions.push(question(&lot));
+        }
+    }
+    questions
+}
+
+/// Case A, and an element that is refused, in groups.
+fn small_mesh() -> Lot {
+    let a = cases().swap_remove(0);
+    let refused = [0, 1, 2, 8, 4, 5, 6, 7];
+    let elements = [a.indices, refused].concat();
+    Lot { label: b"P7".to_vec(), nodes: a.points.to_vec(), elements, ..Lot::default() }
+        .group(0, b"ab")
+        .group(1, b"")
+        .group(2, b"c")
+}
+
+/// Every prefix of a lot, and its byte changes, one bit or all of them.
+fn changed() -> Vec<Question> {
+    let file = small_mesh().file();
+    let mut questions: Vec<Question> =
+        (0..file.len()).map(|length| Question::Slip { file: file[..length].to_vec() }).collect();
+    for at in 0..file.len() {
+        for by in [1, 0x20, 0x80, 0xFF] {
+            let mut file = file.clone();
+            file[at] ^= by;
+            questions.push(Question::Slip { file });
+        }
+    }
+    questions
+}
+
+/// Lots of every refusal.
+fn refused() -> Vec<Question> {
+    let files = [
+        vec![0; 65_537],
+        vec![0; 70_000],
+        vec![],
+        b"LB".to_vec(),
+        vec![0; 65_536],
+        good(&[b'x'; 33], 0, 0).file(),
+        [small_mesh().file(), vec![0]].concat(),
+        good(b"\n", 0, 0).file(),
+        good(b"", 0, 0).group(0, b"\x7F").file(),
+        good(b"", 0, 1001).file(),
+    ];
+    files.map(|file| Question::Slip { file }).to_vec()
+}
+
+/// Lots of no elements to 1,000, one of each number of digits and the next, in
+/// which every element is refused; and full ones.
+fn long() -> Vec<Question> {
+    let counts = [0, 1, 9, 10, 11, 99, 100, 101, 999, 1000];
+    let lots = counts.map(|count| good(b"many", 1, count as usize).group(count.min(5), b""));
+    lots.iter().chain(&full()).map(question).collect()
+}
+
+/// Words of every number of digits: the index that an element is refused by.
+fn digits() -> Vec<Question> {
+    let powers = (0..10).map(|digits| 10u32.pow(digits));
+    let indices = powers.flat_map(|power| [power - 1, power, power + 1]).chain([u32::MAX]);
+    indices.map(|index| question(&Lot::new(b"", &[], &[[index; 8]]))).collect()
+}
+
+fn listed() -> Corpora {
+    made([
+        ("examples and worked cases", worked),
+        ("every refusal", refused),
+        ("numbers of all lengths", digits),
+        ("up to 1,000 elements", long),
+        ("prefixes and byte changes of one", changed),
+    ])
+}
+
+// ------------------------------------------------------------------- drawn --
+
+/// A lot of a few elements of several kinds, with bad indices among them.
+fn random_mesh(shaker: &mut Shaker) -> Lot {
+    let kinds = [Kind::Uniform, Kind::Shaken, Kind::Small, Kind::Mirrored, Kind::Extreme];
+    let blocks = below(shaker, 4);
+    let nodes: Vec<i32> = (0..blocks)
+        .flat_map(|_| {
+            let kind = one_of(shaker, &kinds);
+            element(shaker, kind)
+        })
+        .collect();
+    let elements =
+        (0..below(shaker, 4)).flat_map(|_| element_indices(shaker, 8 * blocks)).collect();
+    let lot = Lot { label: random_label(shaker), nodes, elements, ..Lot::default() };
+    with_groups(shaker, lot)
+}
+
+fn good_lot(shaker: &mut Shaker) -> Question {
+    question(&random_mesh(shaker))
+}
+
+/// One byte of such a lot changed, or its end lost.
+fn changed_lot(shaker: &mut Shaker) -> Question {
+    let mut file = random_mesh(shaker).file();
+    let at = below(shaker, file.len());
+    match shaker.between(0, 2) {
+        0 => file.truncate(at),
+        _ => file[at] = shaker.draw() as u8,
+    }
+    Question::Slip { file }
+}
+
+const DRAWN: [(&str, Draw); 2] =
+    [("random lots", good_lot), ("random lots with one change", changed_lot)];

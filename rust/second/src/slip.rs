@@ -1,0 +1,60 @@
+//! The printed slip of 02, No. 2.
+
+use crate::lot::{read_lot, Lot, AMPLE};
+use crate::{inspect, stamp, Inspection, Limits, Stamp};
+
+#[cfg(test)]
+mod tests;
+
+/// 02: the program "inspects at depth 3 and prints."
+const DEPTH: u32 = 3;
+
+/// Words of bytes with one space between them, and 01's line feed: "Every printed
+/// line, the last included, ends in one line feed."
+fn line(words: &[&[u8]]) -> Vec<u8> {
+    [&words.join(&b' ')[..], b"\n"].concat()
+}
+
+/// A line of some first words, then numbers.
+fn line_of_numbers<T: ToString>(first: &[&[u8]], numbers: &[T]) -> Vec<u8> {
+    let numbers: Vec<String> = numbers.iter().map(T::to_string).collect();
+    let words: Vec<&[u8]> =
+        first.iter().copied().chain(numbers.iter().map(String::as_bytes)).collect();
+    line(&words)
+}
+
+/// "Elements count from 1; an empty name prints as nothing, its spaces kept."
+fn element_line(lot: &Lot, element: u32, record: &[i64]) -> Vec<u8> {
+    let number = (element + 1).to_string();
+    line_of_numbers(&[number.as_bytes(), lot.name_of(element)], record)
+}
+
+/// The last two lines.
+fn closing_lines(answer: &Inspection) -> [Vec<u8>; 2] {
+    let Inspection { valid, invalid, undecided, refused, .. } = *answer;
+    let stamp: &[u8] = match stamp(answer) {
+        Stamp::Sound => b"sound",
+        Stamp::Faulty => b"faulty",
+    };
+    let tally = line_of_numbers(&[b"tally"], &[valid, invalid, undecided, refused]);
+    [tally, line(&[b"stamp", stamp])]
+}
+
+fn slip_of_lot(lot: &Lot) -> Vec<u8> {
+    let mut report = vec![0; lot.elements.len()];
+    let answer = inspect(&Limits::base(), &lot.nodes, &lot.elements, DEPTH, &mut report);
+    let mut lines = vec![line(&[b"lot", &lot.label])];
+    let records = (0..).zip(report.chunks_exact(8));
+    lines.extend(records.map(|(element, record)| element_line(lot, element, record)));
+    lines.extend(closing_lines(&answer));
+    lines.concat()
+}
+
+/// What is printed of a file.  "A refused lot prints the single line "refused"
+/// with a space and its number. The program never lacks room."
+pub fn slip(file: &[u8]) -> Vec<u8> {
+    match read_lot(file, AMPLE) {
+        Err(number) => line_of_numbers(&[b"refused"], &[number]),
+        Ok(reading) => slip_of_lot(&reading.lot),
+    }
+}
