@@ -280,16 +280,9 @@ pub fn entry_at(file: &[u8], at: usize, stage: Stage, elements: usize) -> Entry
         return Entry::Faulty(Refusal::CutShort);
     }
     let marked = mark_at(file, at);
-    // Each mark is written out, so that the compiler makes a way of its own for each.
     match marked {
         Marked::Unknown => Entry::Faulty(Refusal::UnknownMark),
-        Marked::Known(mark) => match mark {
-            Mark::LB => known_at(file, at, stage, Mark::LB, elements),
-            Mark::ND => known_at(file, at, stage, Mark::ND, elements),
-            Mark::HX => known_at(file, at, stage, Mark::HX, elements),
-            Mark::GR => known_at(file, at, stage, Mark::GR, elements),
-            Mark::EN => known_at(file, at, stage, Mark::EN, elements),
-        },
+        Marked::Known(mark) => known_at(file, at, stage, mark, elements),
     }
 }
 

@@ -1,1 +1,1 @@
-// The lot file: its definitions and what is proved of them. No code.
+// The printed slip of a lot: its definitions and what is proved of them. No code.
