@@ -8,7 +8,6 @@ use borrow.Author.Tests.{leb-true}
 use lib.Dec.{leb}
 use lib.ListN.{getD, length, take, drop, length-take, length-drop, drop-of-length-le}
 use lib.Seq.{drop-drop, take-all}
-use Rattle.foundation.specs.Lists.{append-nil}
 use Rattle.lotfile.specs.Format.{Group, GR, entryBytes, elementEntries, groupedEntries}
 use Rattle.lotfile.specs.Runs.{groupsOf}
 use Rattle.lotfile.specs.Writing.{total, rising, allUpTo}
@@ -16,7 +15,7 @@ use Rattle.lotfile.specs.Lawful.{rising-low, rising-high, rising-rest}
 use Rattle.roundtrip.specs.Tests.{true-both}
 use Rattle.entries.specs.Meaning.{Grouped}
 use Rattle.entries.proofs.Laws.{drop-next, total-next}
-use Rattle.entries.specs.Progress.{Next}
+use Rattle.output.specs.Progress.{Next, last}
 
 pub record Among (elements names lengths befores : List ℕ) (k done named : ℕ) : Type 0 where
   pub eights : done % 8 ≡ 0
@@ -39,12 +38,9 @@ module _ {elements names lengths befores : List ℕ} (g : Grouped elements names
     last-eights = simp (length-take, length-drop) (omega (arith, a .eights, a .placed, g .eights))
 
     pub last-next : length lengths ≤ k → Next (leftAmong elements names lengths befores k done named) (elementEntries (take (length elements - done) (drop done elements))) []
-    last-next h = record {
-      parts =
-          ap (λ (ls : List ℕ). groupedEntries (done / 8) (groupsOf (drop named names) ls (drop k befores)) (drop done elements)) (drop-of-length-le lengths h)
-          ∙ ap elementEntries (sym (take-all (length elements - done) (drop done elements) (simp length-drop (omega arith))))
-          ∙ sym (append-nil _);
-    }
+    last-next h =
+        last (ap (λ (ls : List ℕ). groupedEntries (done / 8) (groupsOf (drop named names) ls (drop k befores)) (drop done elements)) (drop-of-length-le lengths h)
+        ∙ ap elementEntries (sym (take-all (length elements - done) (drop done elements) (simp length-drop (omega arith)))))
 
     -- the next group: its elements end there, and its name
     module _ (h : k < length lengths) where

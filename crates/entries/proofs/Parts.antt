@@ -1,5 +1,5 @@
 -- The texts of a lot file from a place of their runs on: the next part, and what is left after it. Assumes nothing.
-use mathlib.Core.Path.{_≡_, sym, _∙_, ap, subst}
+use mathlib.Core.Path.{_≡_, sym, _∙_, ap}
 use mathlib.Core.List.{List, [], _++_, append-assoc}
 use Prim.Native.Nat.{ℕ, suc, _+_, _-_, _/_, _<_, _≤_}
 use native.Mathlib.Nat.{div-eq-sub-div, zero-div}
@@ -10,9 +10,9 @@ use lib.Seq.{length-take-le, drop-drop}
 use lib.IntN.{ℤ, pos}
 use Rattle.lotfile.specs.Numbers.{bits, numberBytes, unsignedBytes, signedBytes}
 use Rattle.lotfile.specs.Format.{Mark, ND, HX, letters, entryBytes, entries, nodeEntries, elementEntries}
-use Rattle.output.specs.Behind.{Laid}
+use Rattle.output.specs.Behind.{Laid, laid-as}
 use Rattle.entries.proofs.Laws.{drop-next}
-use Rattle.entries.specs.Progress.{Next}
+use Rattle.output.specs.Progress.{Next}
 
 -- ---- numbers
 module _ (xs : List ℕ) (k : ℕ) where
@@ -69,4 +69,4 @@ module _ (xs : List ℕ) (k : ℕ) where
 
 -- an entry from its head and its body
 pub entry-laid : {next : ℕ} {after : List ℕ} (m : Mark) (at : ℕ) (space body : List ℕ) (n : ℕ) → length body ≡ n → Laid at ((letters m ++ numberBytes 2 n) ++ body) space after next → Laid at (entryBytes m body) space after next
-entry-laid {next} {after} m at space body n e l = subst (λ (t : List ℕ). Laid at t space after next) (append-assoc (letters m) (numberBytes 2 n) body ∙ ap (λ (k : ℕ). letters m ++ (numberBytes 2 k ++ body)) (sym e)) l
+entry-laid m at space body n e l = laid-as at space (append-assoc (letters m) (numberBytes 2 n) body ∙ ap (λ (k : ℕ). letters m ++ (numberBytes 2 k ++ body)) (sym e)) l

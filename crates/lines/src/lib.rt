@@ -8,7 +8,7 @@ ghost use lib.IntN.{natAbs};
 ghost use Rattle.printed.specs.Decimal.{decimal, signedDecimal};
 ghost use Rattle.printed.specs.Slip.{line, wordLot, refusedLine};
 ghost use Rattle.output.specs.Behind.{Laid};
-ghost use Rattle.lines.specs.Left.{spaced};
+ghost use Rattle.lines.specs.Spaced.{spaced};
 
 // The digit of a number below ten.
 fn digit(x: u64) -> u8

@@ -1,5 +1,5 @@
 -- Runs that are laid over lent space one behind the other.
-use mathlib.Core.Path.{_≡_, _∙_, ap₂}
+use mathlib.Core.Path.{_≡_, _∙_, ap₂, subst}
 use mathlib.Core.List.{List, _++_}
 use Prim.Native.Nat.{ℕ, _+_, _*_, _/_, _%_, _≤_}
 use native.Mathlib.Omega.{arith}
@@ -10,6 +10,10 @@ use Rattle.lotfile.specs.Numbers.{numberBytes}
 -- a run laid over space from `at` on, with the place behind it
 abbrev pub Laid : ℕ → List ℕ → List ℕ → List ℕ → ℕ → Type 0
 Laid at text before after next = (next ≡ at + length text) × (after ≡ put at text before)
+
+-- the same run, by another name
+pub laid-as : {after xs ys : List ℕ} {next : ℕ} (at : ℕ) (space : List ℕ) → xs ≡ ys → Laid at xs space after next → Laid at ys space after next
+laid-as {after} {xs} {ys} {next} at space e h = subst (λ (l : List ℕ). Laid at l space after next) e h
 
 -- one run behind another
 pub laid-then : {next last : ℕ} {mid after : List ℕ} (at : ℕ) (space xs ys : List ℕ) → at ≤ length space → Laid at xs space mid next → Laid next ys mid after last → Laid at (xs ++ ys) space after last

@@ -4,13 +4,13 @@ ghost use mathlib.Core.Path.{_≡_};
 ghost use mathlib.Core.List.{[], _∷_};
 ghost use Prim.Native.Nat.{_+_, _%_, _≤_, _<_};
 ghost use lib.ListN.{length};
-ghost use Rattle.foundation.specs.Laid.{put};
 ghost use Rattle.lotfile.specs.Numbers.{numberBytes};
+ghost use Rattle.output.specs.Behind.{Laid};
 
 // One byte.
 pub fn byte(out: &mut [u8], at: usize, b: u8) -> usize
     requires { ⌜ at + 1 ≤ length (now out) ⌝ }
-    ensures { λ r. ⌜ (r ≡ at + 1) × (now (out .exit) ≡ put at (b ∷ []) (now (out .entry))) ⌝ }
+    ensures { λ r. ⌜ Laid at (b ∷ []) (now (out .entry)) (now (out .exit)) r ⌝ }
 {
     out[at] = b;
     at + 1
@@ -19,7 +19,7 @@ pub fn byte(out: &mut [u8], at: usize, b: u8) -> usize
 // A run of bytes.
 pub fn bytes(out: &mut [u8], at: usize, xs: &[u8]) -> usize
     requires { ⌜ at + length (now xs) ≤ length (now out) ⌝ }
-    ensures { λ r. ⌜ (r ≡ at + length (now (xs .entry))) × (now (out .exit) ≡ put at (now (xs .entry)) (now (out .entry))) ⌝ }
+    ensures { λ r. ⌜ Laid at (now (xs .entry)) (now (out .entry)) (now (out .exit)) r ⌝ }
 {
     for k in 0..xs.len() {
         let b = xs[k];
@@ -38,7 +38,7 @@ fn low(x: u32) -> u8
 // The two bytes of a number.
 pub fn short(out: &mut [u8], at: usize, x: u32) -> usize
     requires { ⌜ (at + 2 ≤ length (now out)) × (x < 65536) ⌝ }
-    ensures { λ r. ⌜ (r ≡ at + 2) × (now (out .exit) ≡ put at (numberBytes 2 x) (now (out .entry))) ⌝ }
+    ensures { λ r. ⌜ Laid at (numberBytes 2 x) (now (out .entry)) (now (out .exit)) r ⌝ }
 {
     let next = byte(out, at, low(x));
     byte(out, next, low(x / 256))
@@ -47,7 +47,7 @@ pub fn short(out: &mut [u8], at: usize, x: u32) -> usize
 // The four bytes of a number.
 pub fn word(out: &mut [u8], at: usize, x: u32) -> usize
     requires { ⌜ at + 4 ≤ length (now out) ⌝ }
-    ensures { λ r. ⌜ (r ≡ at + 4) × (now (out .exit) ≡ put at (numberBytes 4 x) (now (out .entry))) ⌝ }
+    ensures { λ r. ⌜ Laid at (numberBytes 4 x) (now (out .entry)) (now (out .exit)) r ⌝ }
 {
     let next = short(out, at, x % 65536);
     short(out, next, x / 65536)

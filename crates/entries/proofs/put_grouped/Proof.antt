@@ -1,12 +1,11 @@
 -- `put_grouped` meets its contract. The loop's invariant: how far the elements and groups are written (`Among`). Assumes nothing.
-use mathlib.Core.Path.{refl}
 use Prim.Native.Nat.{_-_, _≤_}
 use native.Mathlib.Omega.{arith}
 use borrow.Author.Needs.{needs}
 use lib.ListN.{length}
 use Rattle.lotfile.specs.Format.{groupedEntries}
 use Rattle.lotfile.specs.Runs.{groupsOf}
-use Rattle.entries.specs.Progress.{Progress, laid-none, same-space, part-fits, laid-more, laid-all}
+use Rattle.output.specs.Progress.{Progress, laid-none, same-space, part-fits, laid-more, laid-last}
 use Rattle.entries.proofs.Among.{Among, leftAmong, among-start, last-eights, last-next, elements-from, elements-to, names-to, part-eights, name-short, among-next, group-next}
 use Rattle.entries.proofs.put_grouped.Statement.{statement}
 use Rattle.entries.proofs.put_grouped.Tie as tie
@@ -143,7 +142,7 @@ returns : tie.Need-returns Inv-loop μ-loop
 returns c =
     let s = c .before .before .before .before .before .before .before .before .before .before .before .before in
     let l = c .before .before .before .before .before .before .loop in
-    laid-all (laid-more (l .inv .2) (last-next (s .pre .0) (l .inv .1) (omega arith)) (c .before .before .put-elements .ensures)) refl
+    laid-last (l .inv .2) (last-next (s .pre .0) (l .inv .1) (omega arith)) (c .before .before .put-elements .ensures)
 
 pub put-grouped-spec : {M : Type 1} → statement M
 put-grouped-spec =

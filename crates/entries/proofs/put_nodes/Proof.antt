@@ -6,7 +6,7 @@ use borrow.Author.Needs.{needs}
 use lib.ListN.{length, drop}
 use Rattle.lotfile.specs.Format.{nodeEntries}
 use Rattle.entries.proofs.Parts.{nodes-next, nodes-over, lent-length}
-use Rattle.entries.specs.Progress.{Progress, laid-none, same-space, part-fits, laid-more, laid-all}
+use Rattle.output.specs.Progress.{Progress, laid-none, same-space, part-fits, laid-more, laid-all}
 use Rattle.entries.proofs.put_nodes.Statement.{statement}
 use Rattle.entries.proofs.put_nodes.Tie as tie
 

@@ -1,6 +1,6 @@
 -- `put_signeds` meets its contract. The loop's invariant: the numbers from `k` on are left to be written. Assumes nothing.
-use mathlib.Core.Path.{_∙_, ap, subst}
-use Prim.Native.Nat.{ℕ, _-_, _≤_}
+use mathlib.Core.Path.{_∙_, ap}
+use Prim.Native.Nat.{_-_, _≤_}
 use native.Mathlib.Omega.{arith}
 use borrow.Author.Needs.{needs}
 use lib.ListN.{getD, length, drop}
@@ -8,9 +8,9 @@ use lib.IntN.{pos}
 use mir.Syntax.{w32}
 use mir.ValLaws.{toZ-ofZ}
 use Rattle.lotfile.specs.Numbers.{bits, numberBytes, signedBytes}
-use Rattle.output.specs.Behind.{Laid}
+use Rattle.output.specs.Behind.{laid-as}
 use Rattle.entries.proofs.Parts.{signeds-next, signeds-over}
-use Rattle.entries.specs.Progress.{Progress, laid-none, same-space, part-fits, laid-more, laid-all}
+use Rattle.output.specs.Progress.{Progress, laid-none, same-space, part-fits, laid-more, laid-all}
 use Rattle.entries.proofs.put_signeds.Statement.{statement}
 use Rattle.entries.proofs.put_signeds.Tie as tie
 
@@ -50,8 +50,7 @@ loop-again c =
     let l = c .before .before .before .before .before .before .before .loop in
     let z = getD (s .args .xs .now) (l .k) (pos 0) in
     let word = c .before .before .before .before .bits-of .ensures ∙ ap bits (toZ-ofZ w32 z (record { sfits = c .before .before .before .before .before .bits-of-arg .given })) in
-    let laid = subst (λ (n : ℕ). Laid (l .next) (numberBytes 4 n) (l .out) (c .before .before .word .last .0) (c .before .before .word .result)) word (c .before .before .word .ensures) in
-    (omega arith, laid-more (l .inv .1) (signeds-next (s .args .xs .now) (l .k) (omega arith)) laid)
+    (omega arith, laid-more (l .inv .1) (signeds-next (s .args .xs .now) (l .k) (omega arith)) (laid-as (l .next) (l .out) (ap (numberBytes 4) word) (c .before .before .word .ensures)))
 
 same-length : tie.Need-same-length Inv-loop μ-loop
 same-length c = same-space (c .before .loop .inv .1)

@@ -5,7 +5,7 @@ use borrow.Author.Needs.{needs}
 use lib.ListN.{length, drop}
 use Rattle.lotfile.specs.Numbers.{unsignedBytes}
 use Rattle.entries.proofs.Parts.{unsigneds-next, unsigneds-over}
-use Rattle.entries.specs.Progress.{Progress, laid-none, same-space, part-fits, laid-more, laid-all}
+use Rattle.output.specs.Progress.{Progress, laid-none, same-space, part-fits, laid-more, laid-all}
 use Rattle.entries.proofs.put_unsigneds.Statement.{statement}
 use Rattle.entries.proofs.put_unsigneds.Tie as tie
 

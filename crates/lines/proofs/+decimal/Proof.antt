@@ -7,10 +7,9 @@ use borrow.Author.Needs.{needs}
 use borrow.Fn.Kinds.{In}
 use borrow.Fn.PlainCycle.{Measures, is, falls, and}
 use lib.ListN.{length, length-append}
-use Rattle.output.specs.Behind.{laid-then}
+use Rattle.output.specs.Behind.{laid-as, laid-then}
 use Rattle.printed.specs.Decimal.{decimal as decimalOf}
 use Rattle.printed.specs.DecimalLaws.{decimal-one, decimal-more}
-use Rattle.lines.specs.Left.{laid-as}
 use Rattle.lines.proofs.decimal.Reads as decimal
 use Rattle.lines.proofs.decimal.Kinds as decimal-kinds
 use Rattle.lines.proofs.+decimal.Lts-decimal as decimal-lts

@@ -10,9 +10,8 @@ use lib.IntN.{ℤ, pos, natAbs}
 use lib.Signed.{ltZ}
 use mir.Syntax.{w64}
 use mir.ValLaws.{toZ-ofZ}
-use Rattle.output.specs.Behind.{laid-then}
+use Rattle.output.specs.Behind.{laid-as, laid-then}
 use Rattle.printed.specs.Decimal.{decimal, signedDecimal}
-use Rattle.lines.specs.Left.{laid-as}
 use Rattle.lines.proofs.Negative.{signed-below, signed-above}
 use Rattle.lines.proofs.signed.Statement.{statement}
 use Rattle.lines.proofs.signed.Tie as tie

@@ -7,9 +7,8 @@ use lib.ListN.{length}
 use lib.IntN.{ℤ}
 use mir.Syntax.{w64}
 use mir.ValLaws.{toZ-ofZ}
-use Rattle.output.specs.Behind.{laid-then}
+use Rattle.output.specs.Behind.{laid-as, laid-then}
 use Rattle.printed.specs.Decimal.{signedDecimal}
-use Rattle.lines.specs.Left.{laid-as}
 use Rattle.lines.proofs.signed_number.Statement.{statement}
 use Rattle.lines.proofs.signed_number.Tie as tie
 

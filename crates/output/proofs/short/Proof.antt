@@ -1,11 +1,10 @@
 -- `short` meets its contract. Assumes nothing.
-use mathlib.Core.Path.{_∙_, ap₂}
+use mathlib.Core.Path.{ap₂}
 use mathlib.Core.List.{[], _∷_}
 use Prim.Native.Nat.{ℕ}
 use native.Mathlib.Omega.{arith}
 use borrow.Author.Needs.{needs}
-use Rattle.foundation.specs.Laid.{put}
-use Rattle.output.specs.Behind.{laid-then}
+use Rattle.output.specs.Behind.{laid-as, laid-then}
 use Rattle.output.proofs.short.Statement.{statement}
 use Rattle.output.proofs.short.Tie as tie
 
@@ -27,9 +26,8 @@ same-length c = search needs
 returns : tie.Need-returns
 returns c =
     let s = c .before .before .before .before .before .before .before .before .before .before .before in
-    let low = c .before .before .before .before .before .before .before .before .low .ensures in
-    let both = laid-then (s .args .at) (s .args .out .now) _ _ (omega arith) (c .before .before .before .before .before .before .before .byte .ensures) (c .before .before .byte2 .ensures) in
-    (both .0, both .1 ∙ ap₂ (λ (a b : ℕ). put (s .args .at) (a ∷ b ∷ []) (s .args .out .now)) low (c .before .before .before .low2 .ensures))
+    let both = ap₂ (λ (a b : ℕ). a ∷ b ∷ []) (c .before .before .before .before .before .before .before .before .low .ensures) (c .before .before .before .low2 .ensures) in
+    laid-as (s .args .at) (s .args .out .now) both (laid-then (s .args .at) (s .args .out .now) _ _ (omega arith) (c .before .before .before .before .before .before .before .byte .ensures) (c .before .before .byte2 .ensures))
 
 pub short-spec : {M : Type 1} → statement M
 short-spec =

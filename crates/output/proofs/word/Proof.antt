@@ -1,11 +1,7 @@
 -- `word` meets its contract. Assumes nothing.
-use mathlib.Core.Path.{_∙_, ap}
-use mathlib.Core.List.{List}
-use Prim.Native.Nat.{ℕ}
 use native.Mathlib.Omega.{arith}
 use borrow.Author.Needs.{needs}
-use Rattle.foundation.specs.Laid.{put}
-use Rattle.output.specs.Behind.{laid-then, word-halves}
+use Rattle.output.specs.Behind.{laid-as, laid-then, word-halves}
 use Rattle.output.proofs.word.Statement.{statement}
 use Rattle.output.proofs.word.Tie as tie
 
@@ -21,8 +17,7 @@ same-length c = search needs
 returns : tie.Need-returns
 returns c =
     let s = c .before .before .before .before .before .before .before .before .before in
-    let both = laid-then (s .args .at) (s .args .out .now) _ _ (omega arith) (c .before .before .before .before .before .before .short .ensures) (c .before .before .short2 .ensures) in
-    (both .0, both .1 ∙ ap (λ (l : List ℕ). put (s .args .at) l (s .args .out .now)) (word-halves (s .args .x)))
+    laid-as (s .args .at) (s .args .out .now) (word-halves (s .args .x)) (laid-then (s .args .at) (s .args .out .now) _ _ (omega arith) (c .before .before .before .before .before .before .short .ensures) (c .before .before .short2 .ensures))
 
 pub word-spec : {M : Type 1} → statement M
 word-spec = tie.close (tie.spec short-requires short-requires-2 same-length returns)

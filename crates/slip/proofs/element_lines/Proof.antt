@@ -9,13 +9,13 @@ use Rattle.lotfile.specs.Format.{Group}
 use Rattle.lotfile.specs.Runs.{groupsOf}
 use Rattle.printed.specs.Decimal.{decimal, signedDecimal}
 use Rattle.printed.specs.Slip.{line, elementLines}
-use Rattle.lines.specs.Left.{Left, left-all, left-room, left-next, left-none}
+use Rattle.output.specs.Progress.{Progress, Next, laid-none, same-space, part-fits, laid-more, laid-all}
 use Rattle.slip.proofs.Lines.{linesFrom, lines-all, lines-next, lines-none}
 use Rattle.slip.proofs.element_lines.Statement.{statement}
 use Rattle.slip.proofs.element_lines.Tie as tie
 
 abbrev Inv-loop : tie.InvT-loop
-Inv-loop out₀ at label names lengths befores report n next₀ e₀ out next e = (e ≤ n) × Left at (elementLines label (groupsOf names lengths befores) 8 0 (length report / 8) report) out₀ next (linesFrom label (groupsOf names lengths befores) (length report / 8) report e) out
+Inv-loop out₀ at label names lengths befores report n next₀ e₀ out next e = (e ≤ n) × Progress at (elementLines label (groupsOf names lengths befores) 8 0 (length report / 8) report) out₀ (linesFrom label (groupsOf names lengths befores) (length report / 8) report e) out next
 
 abbrev μ-loop : tie.MeasureT-loop
 μ-loop out₀ at label names lengths befores report n next₀ e₀ out next e = n - e
@@ -39,19 +39,19 @@ lineAt c =
 abbrev behind : tie.After-name-of Inv-loop μ-loop → List ℕ
 behind c = let s = c .before .before .before .before .before .before .before .before in linesFrom (s .args .label .now) (groupsIn s) (countIn s) (s .args .report .now) (c .before .before .loop .e + 1)
 
-due : (c : tie.After-name-of Inv-loop μ-loop) → Left (c .before .before .before .before .before .before .before .before .args .at) (textOf (c .before .before .before .before .before .before .before .before)) (c .before .before .before .before .before .before .before .before .args .out .now) (c .before .before .loop .next) (lineAt c ++ behind c) (c .before .before .loop .out)
+due : (c : tie.After-name-of Inv-loop μ-loop) → Next (linesFrom (c .before .before .before .before .before .before .before .before .args .label .now) (groupsIn (c .before .before .before .before .before .before .before .before)) (countIn (c .before .before .before .before .before .before .before .before)) (c .before .before .before .before .before .before .before .before .args .report .now) (c .before .before .loop .e)) (lineAt c) (behind c)
 due c =
     let s = c .before .before .before .before .before .before .before .before in
     let l = c .before .before .loop in
     let eight : 8 ≡ 8 * l .e + 8 - 8 * l .e = omega arith in
-    let words : map signedDecimal (take 8 (drop (8 * l .e) (s .args .report .now))) ≡ map signedDecimal (take (8 * l .e + 8 - 8 * l .e) (drop (8 * l .e) (s .args .report .now))) = ap (λ (k : ℕ). map signedDecimal (take k (drop (8 * l .e) (s .args .report .now)))) eight in
+    let words = ap (λ (k : ℕ). map signedDecimal (take k (drop (8 * l .e) (s .args .report .now)))) eight in
     let same = ap₂ (λ (name : List ℕ) (ws : List (List ℕ)). line (decimal (suc (l .e))) (name ∷ ws) ++ behind c) (sym (c .name-of .ensures .0)) words in
-    subst (λ (rest : List ℕ). Left (s .args .at) (textOf s) (s .args .out .now) (l .next) rest (l .out)) (lines-next (s .args .label .now) (groupsIn s) (countIn s) (s .args .report .now) (l .e) (omega arith) ∙ same) (l .inv .1)
+    record { parts = lines-next (s .args .label .now) (groupsIn s) (countIn s) (s .args .report .now) (l .e) (omega arith) ∙ same }
 
 loop-holds : tie.Need-loop-holds Inv-loop μ-loop
 loop-holds c =
     let s = c .before .before .before .before .before in
-    (omega arith, subst (λ (rest : List ℕ). Left (s .args .at) (textOf s) (s .args .out .now) (s .args .at) rest (s .args .out .now)) (lines-all (s .args .label .now) (groupsIn s) (countIn s) (s .args .report .now)) (left-all (s .args .at) (textOf s) (s .args .out .now) (s .pre .1)))
+    (omega arith, subst (λ (left : List ℕ). Progress (s .args .at) (textOf s) (s .args .out .now) left (s .args .out .now) (s .args .at)) (lines-all (s .args .label .now) (groupsIn s) (countIn s) (s .args .report .now)) (laid-none (s .pre .1)))
 
 cast-element : tie.Need-cast-element Inv-loop μ-loop
 cast-element c = search needs
@@ -78,7 +78,7 @@ part-element-line-end : tie.Need-part-element-line-end Inv-loop μ-loop
 part-element-line-end c = search needs
 
 element-line-requires : tie.Need-element-line-requires Inv-loop μ-loop
-element-line-requires c κs = left-room (lineAt (c .before .before)) (behind (c .before .before)) (due (c .before .before))
+element-line-requires c κs = part-fits (c .before .before .before .before .loop .inv .1) (due (c .before .before))
 
 add-e : tie.Need-add-e Inv-loop μ-loop
 add-e c = search needs
@@ -87,16 +87,16 @@ loop-less : tie.Need-loop-less Inv-loop μ-loop
 loop-less c = search needs
 
 loop-again : tie.Need-loop-again Inv-loop μ-loop
-loop-again c = let w = c .before .before .before .before .before in (omega arith, left-next (lineAt w) (behind w) (due w) (c .before .before .element-line .ensures))
+loop-again c = let w = c .before .before .before .before .before in (omega arith, laid-more (w .before .before .loop .inv .1) (due w) (c .before .before .element-line .ensures))
 
 same-length : tie.Need-same-length Inv-loop μ-loop
-same-length c = c .before .loop .inv .1 .size
+same-length c = same-space (c .before .loop .inv .1)
 
 returns : tie.Need-returns Inv-loop μ-loop
 returns c =
     let l = c .before .loop in
     let s = c .before .before .before .before .before .before .before in
-    left-none (subst (λ (rest : List ℕ). Left (s .args .at) (textOf s) (s .args .out .now) (l .next) rest (l .out)) (lines-none (s .args .label .now) (groupsIn s) (countIn s) (s .args .report .now) (l .e) (omega arith)) (l .inv .1))
+    laid-all (l .inv .1) (lines-none (s .args .label .now) (groupsIn s) (countIn s) (s .args .report .now) (l .e) (omega arith))
 
 pub element-lines-spec : {M : Type 1} → statement M
 element-lines-spec =

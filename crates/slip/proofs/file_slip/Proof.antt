@@ -14,7 +14,7 @@ use Rattle.lotfile.specs.Format.{lotFile}
 use Rattle.lotfile.specs.Runs.{Runs, lotFrom}
 use Rattle.lot.specs.Promise.{Read, asRead}
 use Rattle.printed.specs.Slip.{refusedLine, lotSlip, slipOf}
-use Rattle.lines.specs.Left.{laid-as}
+use Rattle.output.specs.Behind.{laid-as}
 use Rattle.slip.specs.Promise.{slip-room}
 use Rattle.slip.proofs.Files.{Counts, refused-slip, read-slip, read-counts}
 use Rattle.slip.proofs.file_slip.Statement.{statement}

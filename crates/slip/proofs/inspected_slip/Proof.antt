@@ -1,8 +1,7 @@
 -- `inspected_slip` meets its contract: part by part, what is left of the slip. Assumes nothing.
-use mathlib.Core.Path.{_≡_, ap}
+use mathlib.Core.Path.{sym, ap}
 use mathlib.Core.List.{List, [], _∷_, _++_}
-use Prim.Native.Nat.{ℕ, _+_, _/_}
-use native.Mathlib.Omega.{arith}
+use Prim.Native.Nat.{ℕ, _/_}
 use borrow.Author.Needs.{needs}
 use lib.ListN.{length}
 use Rattle.definitions.specs.Mesh.{Stamp, accepted, stampOf}
@@ -11,7 +10,7 @@ use Rattle.lotfile.specs.Runs.{groupsOf}
 use Rattle.printed.specs.Slip.{line, wordLot, wordStamp, stampWord, elementLines, tallyLine}
 use Rattle.mesh.specs.Meaning.{countsHeld}
 use Rattle.inspector.specs.Meaning.{stampHeld}
-use Rattle.lines.specs.Left.{laid-as, Left, left-all, left-room, left-next, left-last}
+use Rattle.output.specs.Progress.{Progress, Next, first, last, laid-none, part-fits, laid-more, laid-last}
 use Rattle.slip.proofs.inspected_slip.Statement.{statement}
 use Rattle.slip.proofs.inspected_slip.Tie as tie
 
@@ -19,8 +18,8 @@ use Rattle.slip.proofs.inspected_slip.Tie as tie
 abbrev groupsIn : tie.Start → List Group
 groupsIn s = groupsOf (s .args .names .now) (s .args .lengths .now) (s .args .befores .now)
 
-abbrev first : tie.Start → List ℕ
-first s = line wordLot (s .args .label .now ∷ [])
+abbrev top : tie.Start → List ℕ
+top s = line wordLot (s .args .label .now ∷ [])
 
 abbrev middle : tie.Start → List ℕ
 middle s = elementLines (s .args .label .now) (groupsIn s) 8 0 (length (s .args .report .now) / 8) (s .args .report .now)
@@ -28,48 +27,48 @@ middle s = elementLines (s .args .label .now) (groupsIn s) 8 0 (length (s .args 
 abbrev tally : tie.Start → List ℕ
 tally s = tallyLine (countsHeld (s .args .counts))
 
-abbrev last : tie.Start → List ℕ
-last s = line wordStamp (stampWord (stampOf (accepted (countsHeld (s .args .counts)))) ∷ [])
+abbrev stamp : tie.Start → List ℕ
+stamp s = line wordStamp (stampWord (stampOf (accepted (countsHeld (s .args .counts)))) ∷ [])
 
 -- what is left of it at a place
-abbrev from : tie.Start → ℕ → List ℕ → List ℕ → Type 0
-from s at rest now = Left (s .args .at) (first s ++ (middle s ++ (tally s ++ last s))) (s .args .out .now) at rest now
+abbrev Left : tie.Start → List ℕ → List ℕ → ℕ → Type 0
+Left s left out next = Progress (s .args .at) (top s ++ (middle s ++ (tally s ++ stamp s))) (s .args .out .now) left out next
 
-begun : (s : tie.Start) → from s (s .args .at) (first s ++ (middle s ++ (tally s ++ last s))) (s .args .out .now)
-begun s = left-all (s .args .at) (first s ++ (middle s ++ (tally s ++ last s))) (s .args .out .now) (s .pre .1)
+begun : (s : tie.Start) → Left s (top s ++ (middle s ++ (tally s ++ stamp s))) (s .args .out .now) (s .args .at)
+begun s = laid-none (s .pre .1)
 
-behind-label : (c : tie.After-lot-line) → from (c .before .before .before .before .before .before .before .before) (c .lot-line .result) (middle (c .before .before .before .before .before .before .before .before) ++ (tally (c .before .before .before .before .before .before .before .before) ++ last (c .before .before .before .before .before .before .before .before))) (c .lot-line .last .0)
-behind-label c = let s = c .before .before .before .before .before .before .before .before in left-next (first s) (middle s ++ (tally s ++ last s)) (begun s) (c .lot-line .ensures)
+behind-label : (c : tie.After-lot-line) → Left (c .before .before .before .before .before .before .before .before) (middle (c .before .before .before .before .before .before .before .before) ++ (tally (c .before .before .before .before .before .before .before .before) ++ stamp (c .before .before .before .before .before .before .before .before))) (c .lot-line .last .0) (c .lot-line .result)
+behind-label c = let s = c .before .before .before .before .before .before .before .before in laid-more (begun s) (first (top s) (middle s ++ (tally s ++ stamp s))) (c .lot-line .ensures)
 
-behind-elements : (c : tie.After-element-lines) → from (c .before .before .before .before .before .before .before .before .before .before .before .before) (c .element-lines .result) (tally (c .before .before .before .before .before .before .before .before .before .before .before .before) ++ last (c .before .before .before .before .before .before .before .before .before .before .before .before)) (c .element-lines .last .0)
-behind-elements c = let s = c .before .before .before .before .before .before .before .before .before .before .before .before in left-next (middle s) (tally s ++ last s) (behind-label (c .before .before .before .before)) (c .element-lines .ensures)
+behind-elements : (c : tie.After-element-lines) → Left (c .before .before .before .before .before .before .before .before .before .before .before .before) (tally (c .before .before .before .before .before .before .before .before .before .before .before .before) ++ stamp (c .before .before .before .before .before .before .before .before .before .before .before .before)) (c .element-lines .last .0) (c .element-lines .result)
+behind-elements c = let s = c .before .before .before .before .before .before .before .before .before .before .before .before in laid-more (behind-label (c .before .before .before .before)) (first (middle s) (tally s ++ stamp s)) (c .element-lines .ensures)
 
-behind-tally : (c : tie.After-tally-line) → from (c .before .before .before .before .before .before .before .before .before .before .before .before .before .before .before .before) (c .tally-line .result) (last (c .before .before .before .before .before .before .before .before .before .before .before .before .before .before .before .before)) (c .tally-line .last .0)
-behind-tally c = let s = c .before .before .before .before .before .before .before .before .before .before .before .before .before .before .before .before in left-next (tally s) (last s) (behind-elements (c .before .before .before .before)) (c .tally-line .ensures)
+behind-tally : (c : tie.After-tally-line) → Left (c .before .before .before .before .before .before .before .before .before .before .before .before .before .before .before .before) (stamp (c .before .before .before .before .before .before .before .before .before .before .before .before .before .before .before .before)) (c .tally-line .last .0) (c .tally-line .result)
+behind-tally c = let s = c .before .before .before .before .before .before .before .before .before .before .before .before .before .before .before .before in laid-more (behind-elements (c .before .before .before .before)) (first (tally s) (stamp s)) (c .tally-line .ensures)
 
-stamp-is : (c : tie.After-stamp-of) → line wordStamp (stampWord (stampHeld (c .stamp-of .result)) ∷ []) ≡ last (c .before .before .before .before .before .before)
-stamp-is c = ap (λ (x : Stamp). line wordStamp (stampWord x ∷ [])) (c .stamp-of .ensures)
+stamp-last : (c : tie.After-stamp-of) → Next (stamp (c .before .before .before .before .before .before)) (line wordStamp (stampWord (stampHeld (c .stamp-of .result)) ∷ [])) []
+stamp-last c = last (ap (λ (x : Stamp). line wordStamp (stampWord x ∷ [])) (sym (c .stamp-of .ensures)))
 
 stamp-of-requires : tie.Need-stamp-of-requires
 stamp-of-requires c κs = search needs
 
 lot-line-requires : tie.Need-lot-line-requires
-lot-line-requires c κs = let s = c .before .before .before .before .before .before .before in left-room (first s) (middle s ++ (tally s ++ last s)) (begun s)
+lot-line-requires c κs = let s = c .before .before .before .before .before .before .before in part-fits (begun s) (first (top s) (middle s ++ (tally s ++ stamp s)))
 
 element-lines-requires : tie.Need-element-lines-requires
-element-lines-requires c κs = let s = c .before .before .before .before .before .before .before .before .before .before .before in (s .pre .0, left-room (middle s) (tally s ++ last s) (behind-label (c .before .before .before)))
+element-lines-requires c κs = let s = c .before .before .before .before .before .before .before .before .before .before .before in (s .pre .0, part-fits (behind-label (c .before .before .before)) (first (middle s) (tally s ++ stamp s)))
 
 tally-line-requires : tie.Need-tally-line-requires
-tally-line-requires c κs = let s = c .before .before .before .before .before .before .before .before .before .before .before .before .before .before .before in left-room (tally s) (last s) (behind-elements (c .before .before .before))
+tally-line-requires c κs = let s = c .before .before .before .before .before .before .before .before .before .before .before .before .before .before .before in part-fits (behind-elements (c .before .before .before)) (first (tally s) (stamp s))
 
 stamp-line-requires : tie.Need-stamp-line-requires
-stamp-line-requires c κs = let e = ap length (stamp-is (c .before .before .before .before .before .before .before .before .before .before .before .before .before)) in let l = behind-tally (c .before .before .before) in omega (arith, l .place, l .room, l .size)
+stamp-line-requires c κs = part-fits (behind-tally (c .before .before .before)) (stamp-last (c .before .before .before .before .before .before .before .before .before .before .before .before .before))
 
 same-length : tie.Need-same-length
 same-length c = search needs
 
 returns : tie.Need-returns
-returns c = let s = c .before .before .before .before .before .before .before .before .before .before .before .before .before .before .before .before .before .before .before .before .before .before in left-last (last s) (behind-tally (c .before .before .before .before .before .before)) (laid-as _ _ (stamp-is (c .before .before .before .before .before .before .before .before .before .before .before .before .before .before .before .before)) (c .before .before .stamp-line .ensures))
+returns c = laid-last (behind-tally (c .before .before .before .before .before .before)) (stamp-last (c .before .before .before .before .before .before .before .before .before .before .before .before .before .before .before .before)) (c .before .before .stamp-line .ensures)
 
 pub inspected-slip-spec : {M : Type 1} → statement M
 inspected-slip-spec =

@@ -12,7 +12,7 @@ use Rattle.printed.specs.Slip.{refusedLine, inspectedSlip, lotSlip}
 use Rattle.mesh.specs.Meaning.{countsHeld}
 use Rattle.inspector.specs.declared.Inspection.{Inspection as HeldInspection}
 use Rattle.inspector.specs.Meaning.{inspectionHeld}
-use Rattle.lines.specs.Left.{laid-as}
+use Rattle.output.specs.Behind.{laid-as}
 use Rattle.slip.proofs.Lots.{slip-refused, slip-inspected}
 use Rattle.slip.proofs.lot_slip.Statement.{statement}
 use Rattle.slip.proofs.lot_slip.Tie as tie

@@ -7,7 +7,7 @@ use lib.ListN.{length}
 use Rattle.printed.specs.Slip.{stampWord}
 use Rattle.inspector.specs.declared.Stamp.{Stamp}
 use Rattle.inspector.specs.Meaning.{stampHeld}
-use Rattle.lines.specs.Left.{laid-as}
+use Rattle.output.specs.Behind.{laid-as}
 use Rattle.slip.proofs.stamp_word.Statement.{statement}
 use Rattle.slip.proofs.stamp_word.Tie as tie
 

@@ -1,35 +1,37 @@
 -- `tally_line` meets its contract: part by part, what is left of the line. Assumes nothing.
+use mathlib.Core.Path.{refl}
 use mathlib.Core.List.{List, [], _∷_}
 use Prim.Native.Nat.{ℕ}
 use borrow.Author.Needs.{needs}
 use Rattle.printed.specs.Decimal.{decimal}
 use Rattle.printed.specs.Slip.{wordTally, tallyLine}
 use Rattle.mesh.specs.Meaning.{countsHeld}
-use Rattle.lines.specs.Left.{Left, left-all, left-room, left-next, left-last, ending, word-room, left-word}
+use Rattle.output.specs.Progress.{Progress, first, last, laid-none, part-fits, laid-more, laid-last}
+use Rattle.lines.specs.Spaced.{ending, next-word}
 use Rattle.slip.proofs.tally_line.Statement.{statement}
 use Rattle.slip.proofs.tally_line.Tie as tie
 
 -- what is left of the line behind its first word and behind each count
-abbrev from : tie.Start → ℕ → List (List ℕ) → List ℕ → Type 0
-from s at words now = Left (s .args .at) (tallyLine (countsHeld (s .args .n))) (s .args .out .now) at (ending words) now
+abbrev Left : tie.Start → List (List ℕ) → List ℕ → ℕ → Type 0
+Left s words out next = Progress (s .args .at) (tallyLine (countsHeld (s .args .n))) (s .args .out .now) (ending words) out next
 
-behind-word : (c : tie.After-bytes) → from (c .before .before .before .before) (c .bytes .result) (decimal (c .before .before .before .before .args .n .valid) ∷ decimal (c .before .before .before .before .args .n .invalid) ∷ decimal (c .before .before .before .before .args .n .undecided) ∷ decimal (c .before .before .before .before .args .n .refused) ∷ []) (c .bytes .last .0)
+behind-word : (c : tie.After-bytes) → Left (c .before .before .before .before) (decimal (c .before .before .before .before .args .n .valid) ∷ decimal (c .before .before .before .before .args .n .invalid) ∷ decimal (c .before .before .before .before .args .n .undecided) ∷ decimal (c .before .before .before .before .args .n .refused) ∷ []) (c .bytes .last .0) (c .bytes .result)
 behind-word c =
     let s = c .before .before .before .before in
     let n = s .args .n in
-    left-next wordTally (ending (decimal (n .valid) ∷ decimal (n .invalid) ∷ decimal (n .undecided) ∷ decimal (n .refused) ∷ [])) (left-all (s .args .at) (tallyLine (countsHeld n)) (s .args .out .now) (s .pre)) (c .bytes .ensures)
+    laid-more (laid-none (s .pre)) (first wordTally (ending (decimal (n .valid) ∷ decimal (n .invalid) ∷ decimal (n .undecided) ∷ decimal (n .refused) ∷ []))) (c .bytes .ensures)
 
-behind-valid : (c : tie.After-number) → from (c .before .before .before .before .before .before .before .before .before) (c .number .result) (decimal (c .before .before .before .before .before .before .before .before .before .args .n .invalid) ∷ decimal (c .before .before .before .before .before .before .before .before .before .args .n .undecided) ∷ decimal (c .before .before .before .before .before .before .before .before .before .args .n .refused) ∷ []) (c .number .last .0)
-behind-valid c = let n = c .before .before .before .before .before .before .before .before .before .args .n in left-word (decimal (n .valid)) (decimal (n .invalid) ∷ decimal (n .undecided) ∷ decimal (n .refused) ∷ []) (behind-word (c .before .before .before .before .before)) (c .number .ensures)
+behind-valid : (c : tie.After-number) → Left (c .before .before .before .before .before .before .before .before .before) (decimal (c .before .before .before .before .before .before .before .before .before .args .n .invalid) ∷ decimal (c .before .before .before .before .before .before .before .before .before .args .n .undecided) ∷ decimal (c .before .before .before .before .before .before .before .before .before .args .n .refused) ∷ []) (c .number .last .0) (c .number .result)
+behind-valid c = let n = c .before .before .before .before .before .before .before .before .before .args .n in laid-more (behind-word (c .before .before .before .before .before)) (next-word (decimal (n .valid)) (decimal (n .invalid) ∷ decimal (n .undecided) ∷ decimal (n .refused) ∷ [])) (c .number .ensures)
 
-behind-invalid : (c : tie.After-number2) → from (c .before .before .before .before .before .before .before .before .before .before .before .before .before .before) (c .number2 .result) (decimal (c .before .before .before .before .before .before .before .before .before .before .before .before .before .before .args .n .undecided) ∷ decimal (c .before .before .before .before .before .before .before .before .before .before .before .before .before .before .args .n .refused) ∷ []) (c .number2 .last .0)
-behind-invalid c = let n = c .before .before .before .before .before .before .before .before .before .before .before .before .before .before .args .n in left-word (decimal (n .invalid)) (decimal (n .undecided) ∷ decimal (n .refused) ∷ []) (behind-valid (c .before .before .before .before .before)) (c .number2 .ensures)
+behind-invalid : (c : tie.After-number2) → Left (c .before .before .before .before .before .before .before .before .before .before .before .before .before .before) (decimal (c .before .before .before .before .before .before .before .before .before .before .before .before .before .before .args .n .undecided) ∷ decimal (c .before .before .before .before .before .before .before .before .before .before .before .before .before .before .args .n .refused) ∷ []) (c .number2 .last .0) (c .number2 .result)
+behind-invalid c = let n = c .before .before .before .before .before .before .before .before .before .before .before .before .before .before .args .n in laid-more (behind-valid (c .before .before .before .before .before)) (next-word (decimal (n .invalid)) (decimal (n .undecided) ∷ decimal (n .refused) ∷ [])) (c .number2 .ensures)
 
-behind-undecided : (c : tie.After-number3) → from (c .before .before .before .before .before .before .before .before .before .before .before .before .before .before .before .before .before .before .before) (c .number3 .result) (decimal (c .before .before .before .before .before .before .before .before .before .before .before .before .before .before .before .before .before .before .before .args .n .refused) ∷ []) (c .number3 .last .0)
-behind-undecided c = let n = c .before .before .before .before .before .before .before .before .before .before .before .before .before .before .before .before .before .before .before .args .n in left-word (decimal (n .undecided)) (decimal (n .refused) ∷ []) (behind-invalid (c .before .before .before .before .before)) (c .number3 .ensures)
+behind-undecided : (c : tie.After-number3) → Left (c .before .before .before .before .before .before .before .before .before .before .before .before .before .before .before .before .before .before .before) (decimal (c .before .before .before .before .before .before .before .before .before .before .before .before .before .before .before .before .before .before .before .args .n .refused) ∷ []) (c .number3 .last .0) (c .number3 .result)
+behind-undecided c = let n = c .before .before .before .before .before .before .before .before .before .before .before .before .before .before .before .before .before .before .before .args .n in laid-more (behind-invalid (c .before .before .before .before .before)) (next-word (decimal (n .undecided)) (decimal (n .refused) ∷ [])) (c .number3 .ensures)
 
-behind-refused : (c : tie.After-number4) → from (c .before .before .before .before .before .before .before .before .before .before .before .before .before .before .before .before .before .before .before .before .before .before .before .before) (c .number4 .result) [] (c .number4 .last .0)
-behind-refused c = let n = c .before .before .before .before .before .before .before .before .before .before .before .before .before .before .before .before .before .before .before .before .before .before .before .before .args .n in left-word (decimal (n .refused)) [] (behind-undecided (c .before .before .before .before .before)) (c .number4 .ensures)
+behind-refused : (c : tie.After-number4) → Left (c .before .before .before .before .before .before .before .before .before .before .before .before .before .before .before .before .before .before .before .before .before .before .before .before) [] (c .number4 .last .0) (c .number4 .result)
+behind-refused c = let n = c .before .before .before .before .before .before .before .before .before .before .before .before .before .before .before .before .before .before .before .before .before .before .before .before .args .n in laid-more (behind-undecided (c .before .before .before .before .before)) (next-word (decimal (n .refused)) []) (c .number4 .ensures)
 
 slice-aggregate-bytes : tie.Need-slice-aggregate-bytes
 slice-aggregate-bytes c = search needs
@@ -41,34 +43,34 @@ cast-number : tie.Need-cast-number
 cast-number c = search needs
 
 number-requires : tie.Need-number-requires
-number-requires c κs = let n = c .before .before .before .before .before .before .before .before .args .n in word-room (decimal (n .valid)) (decimal (n .invalid) ∷ decimal (n .undecided) ∷ decimal (n .refused) ∷ []) (behind-word (c .before .before .before .before))
+number-requires c κs = let n = c .before .before .before .before .before .before .before .before .args .n in part-fits (behind-word (c .before .before .before .before)) (next-word (decimal (n .valid)) (decimal (n .invalid) ∷ decimal (n .undecided) ∷ decimal (n .refused) ∷ []))
 
 cast-number-2 : tie.Need-cast-number-2
 cast-number-2 c = search needs
 
 number-requires-2 : tie.Need-number-requires-2
-number-requires-2 c κs = let n = c .before .before .before .before .before .before .before .before .before .before .before .before .before .args .n in word-room (decimal (n .invalid)) (decimal (n .undecided) ∷ decimal (n .refused) ∷ []) (behind-valid (c .before .before .before .before))
+number-requires-2 c κs = let n = c .before .before .before .before .before .before .before .before .before .before .before .before .before .args .n in part-fits (behind-valid (c .before .before .before .before)) (next-word (decimal (n .invalid)) (decimal (n .undecided) ∷ decimal (n .refused) ∷ []))
 
 cast-number-3 : tie.Need-cast-number-3
 cast-number-3 c = search needs
 
 number-requires-3 : tie.Need-number-requires-3
-number-requires-3 c κs = let n = c .before .before .before .before .before .before .before .before .before .before .before .before .before .before .before .before .before .before .args .n in word-room (decimal (n .undecided)) (decimal (n .refused) ∷ []) (behind-invalid (c .before .before .before .before))
+number-requires-3 c κs = let n = c .before .before .before .before .before .before .before .before .before .before .before .before .before .before .before .before .before .before .args .n in part-fits (behind-invalid (c .before .before .before .before)) (next-word (decimal (n .undecided)) (decimal (n .refused) ∷ []))
 
 cast-number-4 : tie.Need-cast-number-4
 cast-number-4 c = search needs
 
 number-requires-4 : tie.Need-number-requires-4
-number-requires-4 c κs = let n = c .before .before .before .before .before .before .before .before .before .before .before .before .before .before .before .before .before .before .before .before .before .before .before .args .n in word-room (decimal (n .refused)) [] (behind-undecided (c .before .before .before .before))
+number-requires-4 c κs = let n = c .before .before .before .before .before .before .before .before .before .before .before .before .before .before .before .before .before .before .before .before .before .before .before .args .n in part-fits (behind-undecided (c .before .before .before .before)) (next-word (decimal (n .refused)) [])
 
 byte-requires : tie.Need-byte-requires
-byte-requires c κs = left-room (10 ∷ []) [] (behind-refused (c .before .before .before))
+byte-requires c κs = part-fits (behind-refused (c .before .before .before)) (last refl)
 
 same-length : tie.Need-same-length
 same-length c = search needs
 
 returns : tie.Need-returns
-returns c = left-last (10 ∷ []) (behind-refused (c .before .before .before .before .before .before)) (c .before .before .byte .ensures)
+returns c = laid-last (behind-refused (c .before .before .before .before .before .before)) (last refl) (c .before .before .byte .ensures)
 
 pub tally-line-spec : {M : Type 1} → statement M
 tally-line-spec =

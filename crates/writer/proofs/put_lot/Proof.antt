@@ -6,7 +6,7 @@ use native.Mathlib.Omega.{arith}
 use borrow.Author.Needs.{needs}
 use Rattle.lotfile.specs.Format.{LB, EN, entryBytes, nodeEntries, groupedEntries, written}
 use Rattle.lotfile.specs.Runs.{Runs, groupsOf, lotFrom}
-use Rattle.entries.specs.Progress.{Progress, first, laid-none, part-fits, laid-more, laid-all}
+use Rattle.output.specs.Progress.{Progress, first, last, laid-none, part-fits, laid-more, laid-last}
 use Rattle.writer.specs.Meaning.{runs}
 use Rattle.writer.proofs.put_lot.Statement.{statement}
 use Rattle.writer.proofs.put_lot.Tie as tie
@@ -69,13 +69,13 @@ put-grouped-requires c κs =
     )
 
 put-end-requires : tie.Need-put-end-requires
-put-end-requires c κs = part-fits (grouped-laid (c .before .before .before)) (first (entryBytes EN []) [])
+put-end-requires c κs = part-fits (grouped-laid (c .before .before .before)) (last refl)
 
 same-length : tie.Need-same-length
 same-length c = search needs
 
 returns : tie.Need-returns
-returns c = laid-all (laid-more (grouped-laid (c .before .before .before .before .before .before)) (first (entryBytes EN []) []) (c .before .before .put-end .ensures)) refl
+returns c = laid-last (grouped-laid (c .before .before .before .before .before .before)) (last refl) (c .before .before .put-end .ensures)
 
 pub put-lot-spec : {M : Type 1} → statement M
 put-lot-spec =

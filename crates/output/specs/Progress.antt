@@ -21,6 +21,10 @@ pub record Next (left part rest : List ℕ) : Type 0 where
 
 pub first : (part rest : List ℕ) → Next (part ++ rest) part rest
 first part rest = record { parts = refl }
+
+-- the last part: all that is left
+pub last : {left part : List ℕ} → left ≡ part → Next left part []
+last {left} {part} e = record { parts = e ∙ sym (append-nil part) }
 
 module _ {at : ℕ} {text out₀ : List ℕ} where
   pub laid-none : at + length text ≤ length out₀ → Progress at text out₀ text out₀ at
@@ -49,3 +53,7 @@ module _ {at : ℕ} {text out₀ : List ℕ} where
       laid = laid-then at out₀ (x .done) part (omega (arith, x .fits)) (x .laid) l;
       fits = x .fits;
     }
+
+  -- and with its last part all of it
+  pub laid-last : {left out part out₁ : List ℕ} {next next₁ : ℕ} → Progress at text out₀ left out next → Next left part [] → Laid next part out out₁ next₁ → Laid at text out₀ out₁ next₁
+  laid-last x n l = laid-all (laid-more x n l) refl
