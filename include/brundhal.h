@@ -2,7 +2,8 @@
  *
  * The library decides in whole numbers, without rounding, whether the Jacobian
  * determinant of trilinear hexahedra is positive. Its code is proved against
- * definitions that lay down every answer (crates/definitions). It also reads and
+ * definitions that lay down every answer (crates/definitions; of lot files
+ * crates/lotfile, of slips crates/printed). It also reads and
  * writes the lot files in which meshes arrive, and prints slips of them.
  * Link with libbrundhal.a; no other library is needed but the C library's
  * memory functions (memset and the like).
@@ -234,7 +235,8 @@ BrundhalName brundhal_name(const uint8_t *label, size_t label_len,
  * and of a refused one the line
  *   refused NUMBER
  * Every line ends in one line feed; there is no 0 byte at the end. An empty name is
- * printed as nothing, with the spaces beside it. */
+ * printed as nothing, with the spaces beside it. The call needs about 340 KiB of
+ * stack. */
 size_t brundhal_slip(const uint8_t *file, size_t file_len,
                      uint8_t out[BRUNDHAL_SLIP_BYTES]);
 

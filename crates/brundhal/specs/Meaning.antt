@@ -1,4 +1,4 @@
--- The answers as plain numbers, numbered as document 01 numbers them, and what a caller's plain numbers stand for.
+-- The answers as plain numbers, numbered as documents 01 and 02 number them, and what a caller's plain numbers stand for.
 use mathlib.Core.Path.{_≡_, refl, ap}
 use mathlib.Core.Bool.{Bool, true, false}
 use mathlib.Core.List.{List, [], _∷_, _++_}

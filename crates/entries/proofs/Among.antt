@@ -8,13 +8,14 @@ use borrow.Author.Tests.{leb-true}
 use lib.Dec.{leb}
 use lib.ListN.{getD, length, take, drop, length-take, length-drop, drop-of-length-le}
 use lib.Seq.{drop-drop, take-all}
+use Rattle.foundation.specs.Lists.{drop-next}
 use Rattle.lotfile.specs.Format.{Group, GR, entryBytes, elementEntries, groupedEntries}
 use Rattle.lotfile.specs.Runs.{groupsOf}
 use Rattle.lotfile.specs.Writing.{total, rising, allUpTo}
 use Rattle.lotfile.specs.Lawful.{rising-low, rising-high, rising-rest}
 use Rattle.roundtrip.specs.Tests.{true-both}
 use Rattle.entries.specs.Meaning.{Grouped}
-use Rattle.entries.proofs.Laws.{drop-next, total-next}
+use Rattle.entries.proofs.Laws.{total-next}
 use Rattle.output.specs.Progress.{Next, last}
 
 pub record Among (elements names lengths befores : List ℕ) (k done named : ℕ) : Type 0 where

@@ -8,10 +8,10 @@ use native.Mathlib.Omega.{arith}
 use lib.ListN.{getD, length, take, drop, length-drop, drop-of-length-le}
 use lib.Seq.{length-take-le, drop-drop}
 use lib.IntN.{ℤ, pos}
+use Rattle.foundation.specs.Lists.{drop-next}
 use Rattle.lotfile.specs.Numbers.{bits, numberBytes, unsignedBytes, signedBytes}
 use Rattle.lotfile.specs.Format.{Mark, ND, HX, letters, entryBytes, entries, nodeEntries, elementEntries}
 use Rattle.output.specs.Behind.{Laid, laid-as}
-use Rattle.entries.proofs.Laws.{drop-next}
 use Rattle.output.specs.Progress.{Next}
 
 -- ---- numbers

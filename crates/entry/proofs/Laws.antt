@@ -3,12 +3,13 @@ use mathlib.Core.Path.{_≡_, refl, sym, _∙_, ap, ap₂}
 use mathlib.Core.Bool.{Bool, true, false, _&&_}
 use mathlib.Core.List.{List}
 use mathlib.Core.Option.{none}
-use Prim.Native.Nat.{ℕ, suc, _+_, _-_, _*_, _/_, _%_, _<_}
+use Prim.Native.Nat.{ℕ, _+_, _-_, _*_, _/_, _%_, _<_}
 use native.Mathlib.Omega.{arith}
 use borrow.Author.Tests.{eqb-true}
 use lib.Dec.{eqb}
 use lib.ListN.{getD, length, take, drop, length-drop}
-use lib.Seq.{drop-cons, drop-drop, drop-length, getD-drop}
+use lib.Seq.{drop-drop, drop-length, getD-drop}
+use Rattle.foundation.specs.Lists.{drop-next}
 use Rattle.lotfile.specs.Numbers.{number}
 use Rattle.lotfile.specs.Format.{Mark, LB, ND, HX, GR, EN, letters, isMark, markOf, nameByte, nameBytes}
 
@@ -44,10 +45,10 @@ part-is-body xs at len = let e : at + 4 + len - (at + 4) ≡ len = omega arith i
 
 -- a name from its byte k on
 pub name-right : (name : List ℕ) (k : ℕ) → k < length name → nameByte (getD name k 0) ≡ true → nameBytes (drop k name) ≡ nameBytes (drop (k + 1) name)
-name-right name k h e = let one : k + 1 ≡ suc k = omega arith in rw (drop-cons name k 0 h, e, nameBytes, one)
+name-right name k h e = rw (drop-next name k 0 h, e, nameBytes)
 
 pub name-wrong : (name : List ℕ) (k : ℕ) → k < length name → nameByte (getD name k 0) ≡ false → nameBytes (drop k name) ≡ false
-name-wrong name k h e = rw (drop-cons name k 0 h, e, nameBytes)
+name-wrong name k h e = rw (drop-next name k 0 h, e, nameBytes)
 
 pub name-over : (name : List ℕ) (k : ℕ) → k ≡ length name → nameBytes (drop k name) ≡ true
 name-over name k e = rw (e, drop-length)

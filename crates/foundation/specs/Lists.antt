@@ -3,10 +3,12 @@ use mathlib.Core.Path.{_≡_, refl, sym, _∙_, ap, ap₂, subst}
 use mathlib.Core.Bool.{Bool, true, false}
 use mathlib.Core.List.{List, [], _∷_, _++_, append-assoc, map}
 use Prim.Native.Nat.{ℕ, zero, suc, _+_, _<_, _≤_}
+use native.Mathlib.Numerals.{add-one}
 use native.Mathlib.Omega.{arith}
 use native.Mathlib.Decide.{ℕ-discrete}
 use lib.Dec.{T, eqb, eqb→eq}
-use lib.ListN.{getD, length, length-append}
+use lib.ListN.{getD, length, drop, length-append}
+use lib.Seq.{drop-cons}
 
 -- the lists of f, one after the other
 abbrev pub concatMap : {A B : Type 0} → (A → List B) → List A → List B
@@ -97,6 +99,9 @@ module _ {A B : Type 0} (f : A → List B) where
   concatMap-some (x ∷ xs) k h = simp length-append (omega (arith, h .0))
 
 -- ---- lists by number
+pub drop-next : {A : Type 0} (xs : List A) (k : ℕ) (d : A) → k < length xs → drop k xs ≡ getD xs k d ∷ drop (k + 1) xs
+drop-next xs k d h = drop-cons xs k d h ∙ ap (λ (n : ℕ). getD xs k d ∷ drop n xs) (sym (add-one k))
+
 pub length-tabulate : {A : Type 0} (f : ℕ → A) (i n : ℕ) → length (tabulate f i n) ≡ n
 length-tabulate f i zero = refl
 length-tabulate f i (suc n) = ap suc (length-tabulate f (suc i) n)

@@ -1,6 +1,5 @@
 -- What one entry adds to the lent runs, mark by mark. Assumes nothing.
 use mathlib.Core.Path.{_≡_, refl, sym, _∙_, ap, ap₂, subst}
-use mathlib.Core.Bool.{true}
 use mathlib.Core.List.{List, [], _∷_, _++_, map}
 use Prim.Native.Nat.{ℕ, zero, suc, _+_, _*_, _≤_, _<_}
 use native.Mathlib.Omega.{arith}
@@ -12,7 +11,6 @@ use Rattle.foundation.specs.Lists.{append-nil}
 use Rattle.foundation.specs.Laid.{put, put-nil}
 use Rattle.lotfile.specs.Numbers.{number, signed, unsigneds, signeds}
 use Rattle.lotfile.specs.Format.{Mark as FileMark, LB as markLB, ND as markND, HX as markHX, GR as markGR, EN as markEN}
-use Rattle.lotfile.specs.Runs.{Runs}
 use Rattle.entry.specs.declared.Mark.{Mark}
 use Rattle.entry.specs.Meaning.{markHeld}
 use Rattle.lot.specs.declared.Counts.{Counts}

@@ -1,9 +1,9 @@
 -- How far the handing out of a file without fault has come: what was read so far lies over the lent runs. Assumes nothing.
 use mathlib.Core.Path.{_≡_, refl, sym, _∙_, ap, ap₂, subst}
 use mathlib.Core.Bool.{true, false}
-use mathlib.Core.List.{List, [], _∷_, _++_}
+use mathlib.Core.List.{List, _++_}
 use mathlib.Core.Option.{none, some}
-use Prim.Native.Nat.{ℕ, _+_, _*_, _/_, _≤_, _<_}
+use Prim.Native.Nat.{ℕ, _+_, _*_, _≤_, _<_}
 use native.Mathlib.Omega.{arith}
 use lib.ListN.{getD, length, take, drop, length-append, length-drop}
 use lib.Seq.{drop-drop}
@@ -12,13 +12,13 @@ use Rattle.foundation.specs.Laid.{put, laidOver, length-laid, put-behind}
 use Rattle.lotfile.specs.Numbers.{number}
 use Rattle.lotfile.specs.Format.{lotFile, Lot, Mark, markOf, rightLength, Stage, atLabel, stageAfter}
 use Rattle.lotfile.specs.Runs.{Runs, namesOf, lengthsOf, beforesOf, runsOf}
-use Rattle.lotfile.specs.Reading.{whole, entryOf, held, joined, taken, accepted, hasEnded, noLot, readLot, lotOf}
+use Rattle.lotfile.specs.Reading.{whole, entryOf, held, joined, hasEnded, readLot, lotOf}
 use Rattle.lotfile.specs.Joined.{names-append, lengths-append, befores-append}
-use Rattle.lotfile.specs.Entries.{IsWhole, whole-is}
-use Rattle.lotfile.specs.Reached.{Reached, Next, Grows, reached-next, reached-grows, reached-all}
+use Rattle.lotfile.specs.Entries.{whole-is}
+use Rattle.lotfile.specs.Reached.{Next, Grows, reached-next, reached-grows, reached-all}
 use Rattle.lotfile.specs.Accepted.{accepted-short}
 use Rattle.lot.specs.declared.Counts.{Counts}
-use Rattle.lot.specs.Meaning.{noCounts, countedOf, Small, newRuns, Fitting, Handable}
+use Rattle.lot.specs.Meaning.{noCounts, countedOf, Small, Fitting, Handable}
 use Rattle.lot.proofs.Seen.{Seen, before, seen-start, seen-whole, seen-whole-lot, seen-small}
 use Rattle.lot.proofs.Answers.{as-many-lengths, as-many-befores}
 use Rattle.lot.proofs.EntryRuns.{Laid}

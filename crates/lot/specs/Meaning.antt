@@ -5,7 +5,7 @@ use mathlib.Core.List.{List}
 use Prim.Native.Nat.{ℕ, _+_, _*_, _≤_}
 use lib.Dec.{leb}
 use lib.ListN.{length, take, drop}
-use Rattle.lotfile.specs.Format.{lotFile, Mark as FileMark, LB as markLB, ND as markND, HX as markHX, GR as markGR, EN as markEN, rightLength, Lot}
+use Rattle.lotfile.specs.Format.{lotFile, Mark as FileMark, LB as markLB, ND as markND, HX as markHX, GR as markGR, EN as markEN, rightLength}
 use Rattle.lotfile.specs.Runs.{Runs, namesOf, runsOf}
 use Rattle.lotfile.specs.Reading.{Refusal as FileRefusal, held, Reading, accepted, refused, lotOf, handedOut, Room as FileRoom}
 use Rattle.entry.specs.Meaning.{refusalHeld}

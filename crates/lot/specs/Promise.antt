@@ -1,7 +1,7 @@
 -- What `lot::read` hands out is what the file holds: a file whose number is 0 is the writing-out of the label that is handed back and of the words that are filled.
-use mathlib.Core.Path.{_≡_, refl, sym, _∙_, ap, ap₂}
-use mathlib.Core.List.{List, _++_}
-use Prim.Native.Nat.{ℕ, _*_, _/_, _%_}
+use mathlib.Core.Path.{_≡_, sym, _∙_, ap, ap₂}
+use mathlib.Core.List.{List}
+use Prim.Native.Nat.{ℕ, _*_}
 use native.Mathlib.Omega.{arith}
 use lib.ListN.{getD, length, take, drop, length-map}
 use lib.Seq.{take-append-seam}
@@ -48,9 +48,9 @@ module _ (file : List ℕ) (lent now : Runs) (answer : List ℕ) (h : All Byte f
   abbrev pub out : Lot
   out = lotOf (readOver file lent)
 
-  good : readLot lotFile file ≡ accepted out
+  pub read-accepted : readLot lotFile file ≡ accepted out
   unfolding readingNumbers
-  good = reading-accepted lotFile file _ out (zero-accepted (readOver file lent) (sym (ap (λ (l : List ℕ). getD l 0 0) (x .answer-is)) ∙ e)) .0
+  read-accepted = reading-accepted lotFile file _ out (zero-accepted (readOver file lent) (sym (ap (λ (l : List ℕ). getD l 0 0) (x .answer-is)) ∙ e)) .0
 
   -- the answer's words, by number
   word : (k : ℕ) → getD answer k 0 ≡ getD (readingNumbers (readOver file lent)) k 0
@@ -59,7 +59,7 @@ module _ (file : List ℕ) (lent now : Runs) (answer : List ℕ) (h : All Byte f
   pub read-runs : asRead now answer ≡ runsOf out
   unfolding readingNumbers
   read-runs =
-      let lawful = accepted-lawful lotFile file out h good in
+      let lawful = accepted-lawful lotFile file out h read-accepted in
       let gs = out .groups in
       let nodes : 3 * getD answer 1 0 ≡ length (out .nodes) = omega (arith, word 1, lawful .nodes .threes) in
       let elements : 8 * getD answer 2 0 ≡ length (out .elements) = omega (arith, word 2, lawful .elements .eights) in
@@ -72,4 +72,4 @@ module _ (file : List ℕ) (lent now : Runs) (answer : List ℕ) (h : All Byte f
       (part-is _ (runsOf out .befores) (lent .befores) (now .befores) (x .befores-are) befores)
 
   pub read-as-written : file ≡ written (lotFrom (asRead now answer))
-  read-as-written = accepted-written lotFile file out h good ∙ ap written (sym (lot-back out) ∙ ap lotFrom (sym read-runs))
+  read-as-written = accepted-written lotFile file out h read-accepted ∙ ap written (sym (lot-back out) ∙ ap lotFrom (sym read-runs))

@@ -9,7 +9,7 @@ ghost use denote.Ref.{ptr};
 ghost use Rattle.foundation.specs.Laid.{put, laidOver};
 ghost use Rattle.lotfile.specs.Numbers.{unsigneds, signeds};
 ghost use Rattle.lotfile.specs.Format.{lotFile};
-ghost use Rattle.lotfile.specs.Reading.{readLot, reading, readInto, lotOf, handedOut, labelPlace, readingNumbers, refusalNumber};
+ghost use Rattle.lotfile.specs.Reading.{readLot, reading, readInto, handedOut, labelPlace, readingNumbers, refusalNumber};
 ghost use Rattle.entry.specs.Meaning.{refusalHeld, markHeld};
 ghost use Rattle.lot.specs.Meaning.{noCounts, countedOf, Small, scanHeld, scanOf, Few, roomHeld, hasRoom, newRuns, Fitting, Handable};
 use entry::Entry;

@@ -1,7 +1,6 @@
 -- Lots joined, and the runs of a joined lot.
 use mathlib.Core.Path.{_≡_, refl, ap}
 use mathlib.Core.List.{List, [], _∷_, _++_, append-assoc, map}
-use Prim.Native.Nat.{ℕ}
 use lib.ListN.{length}
 use Rattle.foundation.specs.Lists.{append-nil, concatMap-append}
 use Rattle.lotfile.specs.Format.{Lot, Group}

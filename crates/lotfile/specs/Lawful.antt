@@ -1,5 +1,5 @@
 -- What a lot that is handed out keeps to: document 01's limits and document 02's numbers of 32 bits. Each entry that is taken keeps to them.
-use mathlib.Core.Path.{_≡_, refl, sym, ap, subst}
+use mathlib.Core.Path.{_≡_, refl, sym, subst}
 use mathlib.Core.Bool.{Bool, true, false, _&&_}
 use mathlib.Core.List.{List, [], _∷_, _++_}
 use mathlib.Core.Option.{Option, none, some}

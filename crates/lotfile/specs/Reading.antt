@@ -30,6 +30,7 @@ refusalNumber badByte = 25
 refusalNumber tooManyElements = 26
 refusalNumber noRoom = 27
 
+-- 01: "A label or name is 0 to 32 bytes, each 32..126": a wrong byte
 abbrev pub nameFault : List ℕ → Option Refusal
 nameFault name = elim (nameBytes name) [ true ↦ none | false ↦ some badByte ]
 

@@ -1,13 +1,11 @@
 -- Groups and their runs: each is had from the other.
-use mathlib.Core.Path.{_≡_, refl, sym, _∙_, ap, ap₂}
-use mathlib.Core.Bool.{true, _&&_}
-use mathlib.Core.List.{List, [], _∷_, _++_, map}
-use Prim.Native.Nat.{ℕ, _+_, _≤_}
+use mathlib.Core.Path.{_≡_, refl, _∙_, ap, ap₂}
+use mathlib.Core.List.{List, [], _∷_, _++_}
+use Prim.Native.Nat.{ℕ}
 use native.Mathlib.Omega.{arith}
 use lib.ListN.{length, take, drop, length-drop, take-append-drop}
 use lib.IntN.{ℤ}
 use lib.Seq.{take-append-seam, drop-append-seam, length-take-le}
-use Rattle.foundation.specs.Lists.{concatMap}
 use Rattle.lotfile.specs.Format.{Lot, Group}
 use Rattle.lotfile.specs.Runs.{Runs, namesOf, lengthsOf, beforesOf, runsOf, groupsOf, lotFrom}
 use Rattle.lotfile.specs.Writing.{total}

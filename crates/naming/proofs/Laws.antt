@@ -2,13 +2,13 @@
 use mathlib.Core.Path.{_≡_, refl, sym, _∙_, ap, ap₂}
 use mathlib.Core.Bool.{Bool, true, false}
 use mathlib.Core.List.{List, [], _∷_}
-use Prim.Native.Nat.{ℕ, suc, _+_, _-_, _<_, _≤_, min}
-use native.Mathlib.Numerals.{add-one}
+use Prim.Native.Nat.{ℕ, _+_, _-_, _<_, _≤_, min}
 use native.Mathlib.Decide.{decLe}
 use native.Mathlib.Omega.{arith}
 use borrow.Author.Tests.{le-leb, lt-leb}
 use lib.ListN.{getD, length, take, drop, length-drop, drop-of-length-le}
-use lib.Seq.{take-all, drop-cons, drop-drop, drop-length, take-length, length-take-le}
+use lib.Seq.{take-all, drop-drop, drop-length, take-length, length-take-le}
+use Rattle.foundation.specs.Lists.{drop-next}
 use Rattle.lotfile.specs.Format.{Group}
 use Rattle.lotfile.specs.Runs.{groupsOf}
 use Rattle.lotfile.specs.Naming.{nameInForce, placeInForce, isEmpty, nameOf}
@@ -54,11 +54,10 @@ module _ (names lengths befores : List ℕ) where
   left-next at k len h i cut =
       let l = getD lengths k 0 in
       let far : min l (length (drop at names)) ≡ len = ap (min l) (length-drop at names) ∙ sym cut in
-      ap₂ (groupsOf (drop at names)) (drop-cons lengths k 0 h) (drop-cons befores k 0 i)
-      ∙ ap₂ (λ (name rest : List ℕ). record { name = name; before = getD befores k 0 } ∷ groupsOf rest (drop (suc k) lengths) (drop (suc k) befores))
+      ap₂ (groupsOf (drop at names)) (drop-next lengths k 0 h) (drop-next befores k 0 i)
+      ∙ ap₂ (λ (name rest : List ℕ). record { name = name; before = getD befores k 0 } ∷ groupsOf rest (drop (k + 1) lengths) (drop (k + 1) befores))
       (take-cut l (drop at names) ∙ ap (λ (n : ℕ). take n (drop at names)) far)
       (drop-cut l (drop at names) ∙ ap (λ (n : ℕ). drop n (drop at names)) far ∙ drop-drop len at names)
-      ∙ ap (λ (j : ℕ). record { name = take len (drop at names); before = getD befores k 0 } ∷ left (at + len) j) (sym (add-one k))
 
   left-none : (at k : ℕ) → min (length lengths) (length befores) ≤ k → left at k ≡ []
   left-none at k h = elim (decLe (length lengths) k) [

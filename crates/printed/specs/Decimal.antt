@@ -10,7 +10,7 @@ unfoldable pub digits : ℕ → ℕ → List ℕ
 digits zero x = []
 digits (suc k) x = elim (ltb x 10) [ true ↦ (48 + x) ∷ [] | false ↦ digits k (x / 10) ++ ((48 + x % 10) ∷ []) ]
 
--- x has no more than x digits, or one
+-- a number above 0 has no more digits than itself, and 0 has one, so one more than x is enough
 unfoldable pub decimal : ℕ → List ℕ
 decimal x = digits (suc x) x
 

@@ -52,9 +52,6 @@ decimal-short x h = decimal-length 3 x h
 pub decimal-32 : (x : ℕ) → x < 2 ^ 32 → length (decimal x) ≤ 10
 decimal-32 x h = decimal-length 9 x (omega arith)
 
-pub decimal-64 : (x : ℕ) → x < 2 ^ 64 → length (decimal x) ≤ 20
-decimal-64 x h = decimal-length 19 x (omega arith)
-
 pub signed-length : (z : ℤ) → mag z < 2 ^ 63 → length (signedDecimal z) ≤ 20
 signed-length (pos x) h = omega (arith, decimal-length 18 x (omega arith))
 signed-length (negsuc x) h = omega (arith, decimal-length 18 (suc x) (omega arith))

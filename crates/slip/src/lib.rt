@@ -1,5 +1,5 @@
 // The printed slip of a lot: the service `write`. Nothing has to be checked first: it takes any bytes, and states its whole answer, every
-// byte of lent space included, as an equation with `Slip` of the crate `printed` at the limits and depth 3.
+// byte of lent space included, as an equation with `Slip` of the crate `printed` at the limits `base` and `lotFile` and depth 3.
 // The other functions lay a part of the slip over lent space from a place on, return the place behind it, and leave it to their callers
 // that there is room.
 ghost use mathlib.Core.Path.{_≡_};

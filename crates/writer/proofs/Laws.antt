@@ -6,8 +6,8 @@ use Prim.Native.Nat.{ℕ, _+_, _<_, _≤_}
 use borrow.Author.Tests.{le-leb, lt-leb, eqb-true, eqb-false, eq-eqb, ne-eqb}
 use lib.Dec.{eqb}
 use lib.ListN.{getD, length, drop, drop-of-length-le}
+use Rattle.foundation.specs.Lists.{drop-next}
 use Rattle.lotfile.specs.Writing.{total, rising, allUpTo}
-use Rattle.entries.proofs.Laws.{drop-next}
 
 -- two tests that pass together
 pub eqb-same : (a b c d : ℕ) → (a ≡ b → c ≡ d) → (c ≡ d → a ≡ b) → eqb a b ≡ eqb c d

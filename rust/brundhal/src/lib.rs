@@ -368,7 +368,7 @@ pub fn name_of<'a>(label: &'a [u8], groups: Groups<'a>, element: u32) -> Name<'a
 }
 
 /// Prints the slip of a lot file to the front of lent space, and answers its
-/// length; the space past it is untouched.
+/// length; the space past it is untouched.  The call needs about 340 KiB of stack.
 pub fn slip(file: &[u8], out: &mut [u8; SLIP_BYTES]) -> usize {
     // A slice with its own length, borrowed for the call and only read, and
     // `SLIP_BYTES` bytes that are written.

@@ -1,16 +1,15 @@
 -- `words` meets its contract. The loop's invariant: what is left of the text from word `k` on. Assumes nothing.
-use mathlib.Core.Path.{sym, _∙_, ap, ap₂}
+use mathlib.Core.Path.{sym, _∙_, ap}
 use mathlib.Core.List.{List, _∷_, map}
 use Prim.Native.Nat.{ℕ, _+_, _-_, _≤_}
-use native.Mathlib.Numerals.{add-one}
 use native.Mathlib.Omega.{arith}
 use borrow.Author.Needs.{needs}
 use lib.ListN.{getD, length, drop, drop-of-length-le}
-use lib.Seq.{drop-cons}
 use lib.IntN.{ℤ, pos}
 use mir.Syntax.{w64}
 use mir.Val.{toZ, ofZ}
 use mir.ValLaws.{toZ-ofZ}
+use Rattle.foundation.specs.Lists.{drop-next}
 use Rattle.output.specs.Progress.{Progress, Next, laid-none, same-space, part-fits, laid-more, laid-all}
 use Rattle.printed.specs.Decimal.{signedDecimal}
 use Rattle.lines.specs.Spaced.{spaced}
@@ -32,7 +31,7 @@ due c =
     let ws = c .before .before .before .before .args .ws .now in
     let k = c .before .before .loop .k in
     let same = sym (toZ-ofZ w64 (getD ws k (pos 0)) (record { sfits = c .w .given })) in
-    record { parts = ap textOf (drop-cons ws k (pos 0) (omega arith) ∙ ap₂ (λ (z : ℤ) (j : ℕ). z ∷ drop j ws) same (sym (add-one k))) }
+    record { parts = ap textOf (drop-next ws k (pos 0) (omega arith) ∙ ap (λ (z : ℤ). z ∷ drop (k + 1) ws) same) }
 
 loop-holds : tie.Need-loop-holds Inv-loop μ-loop
 loop-holds c = (omega arith, laid-none (c .before .pre))

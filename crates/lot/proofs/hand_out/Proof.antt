@@ -5,7 +5,6 @@ use native.Mathlib.Omega.{arith}
 use borrow.Author.Needs.{needs}
 use lib.ListN.{length}
 use Rattle.entry.specs.Meaning.{markHeld, markedHeld}
-use Rattle.lot.specs.declared.Counts.{Counts}
 use Rattle.lot.proofs.Handed.{Handed, short-file, not-unknown, here, handed-start, handed-next, four-left, same-nodes, same-elements, same-names, same-lengths, same-befores, handed-all, within-file, small-here, handed-fits, handed-then}
 use Rattle.lot.proofs.hand_out.Statement.{statement}
 use Rattle.lot.proofs.hand_out.Tie as tie

@@ -1,9 +1,9 @@
 -- `put_name` meets its contract. The loop's invariant: the first `k` bytes are laid over the lent bytes. Assumes nothing.
 use mathlib.Core.Path.{_≡_, refl, sym, _∙_, ap}
-use Prim.Native.Nat.{ℕ, _+_, _-_, _≤_, _<_}
+use Prim.Native.Nat.{ℕ, _-_, _≤_}
 use native.Mathlib.Omega.{arith}
 use borrow.Author.Needs.{needs}
-use lib.ListN.{getD, length, length-set, take, drop, length-drop}
+use lib.ListN.{length, length-set, take, drop, length-drop}
 use lib.Seq.{paste, paste-zero, getD-take, getD-drop, length-take-le}
 use Rattle.foundation.specs.Laid.{paste-next, paste-all}
 use Rattle.lot.proofs.put_name.Statement.{statement}

@@ -1,9 +1,8 @@
 -- `read` meets its contract: by what the scan of the file found. Assumes nothing.
-use mathlib.Core.Path.{_≡_, refl, sym, _∙_, ap, subst}
-use mathlib.Core.List.{List, [], _∷_}
+use mathlib.Core.Path.{refl, sym, _∙_, ap, subst}
+use mathlib.Core.List.{[], _∷_}
 use Prim.Native.Nat.{ℕ, _+_}
 use native.Mathlib.Omega.{arith}
-use lib.ListN.{length}
 use Rattle.foundation.specs.Laid.{laidOver}
 use Rattle.lotfile.specs.NumberLaws.{bytes-by-place}
 use Rattle.lotfile.specs.Format.{lotFile}

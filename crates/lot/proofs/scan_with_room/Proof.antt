@@ -1,7 +1,6 @@
 -- `scan_with_room` meets its contract: the scan of the file, and then the test of the lent runs. Assumes nothing.
 use mathlib.Core.Path.{sym, _∙_, ap, subst}
 use borrow.Author.Needs.{needs}
-use borrow.Author.Tests.{not-true}
 use Rattle.lotfile.specs.Format.{lotFile}
 use Rattle.lotfile.specs.Steps.{reading-refused, reading-full, reading-fits}
 use Rattle.lot.specs.Meaning.{scanHeld, scanOf, Few}
