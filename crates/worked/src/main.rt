@@ -5,10 +5,8 @@ use inspector::Bounds;
 fn print_signed(w: i64) {
     if w < 0 {
         io::write_all(1, b"-");
-        io::print_decimal(1, (-(w + 1)) as u64 + 1);
-        return;
     }
-    io::print_decimal(1, w as u64);
+    io::print_decimal(1, lines::magnitude(w));
 }
 
 fn print_record(report: [i64; 8]) {
