@@ -1,100 +1,88 @@
--- A row of the table against the volumes, added up from its end.
-use mathlib.Core.Path.{_≡_, refl, sym, _∙_, ap, ap₂, subst}
-use mathlib.Core.Bool.{Bool}
-use mathlib.Core.List.{List, [], _∷_}
-use Prim.Native.Nat.{ℕ, zero, suc, _+_, _*_, _-_, _<_, _≤_, zero-le}
+-- A row's list against the volumes, added up from its end.
+use mathlib.Core.Path.{_≡_, refl, sym, _∙_, ap, subst}
+use mathlib.Core.List.{List, _∷_}
+use Prim.Native.Nat.{ℕ, suc, _+_, _*_, _-_, _<_, _≤_, zero-le}
 use native.Mathlib.Omega.{arith}
-use lib.Dec.{leb, leb→le, lit<}
-use lib.ListN.{getD, drop, length-take, drop-of-length-le}
-use lib.Seq.{getD-take, getD-drop}
-use lib.IntN.{ℤ, pos, natAbs, _+ℤ_, _*ℤ_, zero-*ℤ, *ℤ-zero}
+use lib.Dec.{lit<}
+use lib.ListN.{getD}
+use lib.IntN.{ℤ, pos, _+ℤ_, _*ℤ_}
 use mir.Syntax.{w64}
 use mir.Val.{SFits, toZ, ofZ}
-use Rattle.foundation.specs.Lists.{below, getD-all}
+use Rattle.foundation.specs.Lists.{tabulate}
 use Rattle.foundation.specs.Polynomial.{integers}
-use Rattle.foundation.specs.Words.{within}
 use Rattle.foundation.specs.Held.{Rep, leaf, weaken, mul, mul-fits, add-under, add-fits-under}
-use Rattle.definitions.specs.Coefficients.{table, row, dot}
+use Rattle.definitions.specs.Coefficients.{row, dot}
 use Rattle.control.specs.Range.{InRange, volumeLimit}
-use Rattle.control.specs.Table.{IsTable}
+use Rattle.table.specs.Sparse.{AreSparseRows}
+use Rattle.table.specs.SparseSum.{sparseDot, sparse-dot}
+use Rattle.table.specs.SparseRuns.{entryAt, entries, row-held, row-short, row-inside, column-small, value-small}
 
--- ---- the table's entries are at most 8: one test over all of them
-entry-small : (i : ℕ) → natAbs (getD table i (pos 0)) ≤ 8
-entry-small = within 8 table (getD-all (λ x. natAbs x ≤ 8) table (pos 0) (λ n l. leb→le (natAbs (getD table n (pos 0))) 8 (below test 540 tt n l)))
-  where
-    test : ℕ → Bool
-    test n = leb (natAbs (getD table n (pos 0))) 8
-
--- ---- the terms of two lists from number k on
-abbrev pub from : List ℤ → List ℤ → ℕ → ℤ
-from cs vs k = dot integers (drop k cs) (drop k vs)
-
-dot-nil : (cs : List ℤ) → dot integers cs [] ≡ pos 0
-dot-nil [] = refl
-dot-nil (c ∷ cs) = refl
-
-from-nil : (vs : List ℤ) (k : ℕ) → from [] vs k ≡ pos 0
-from-nil vs zero = refl
-from-nil vs (suc k) = refl
-
-from-nil-right : (cs : List ℤ) (k : ℕ) → from cs [] k ≡ pos 0
-from-nil-right cs zero = dot-nil cs
-from-nil-right cs (suc k) = dot-nil (drop (suc k) cs)
-
-from-step : (cs vs : List ℤ) (k : ℕ) → getD cs k (pos 0) *ℤ getD vs k (pos 0) +ℤ from cs vs (suc k) ≡ from cs vs k
-from-step [] vs k = ap (λ (x : ℤ). x +ℤ pos 0) (zero-*ℤ (getD vs k (pos 0))) ∙ sym (from-nil vs k)
-from-step (c ∷ cs) [] k = ap₂ _+ℤ_ (*ℤ-zero (getD (c ∷ cs) k (pos 0))) (from-nil-right (c ∷ cs) (suc k)) ∙ sym (from-nil-right (c ∷ cs) k)
-from-step (c ∷ cs) (v ∷ vs) zero = refl
-from-step (c ∷ cs) (v ∷ vs) (suc k) = from-step cs vs k
-
--- ---- row n of a copy of the table against volumes in range
 abbrev pub term : ℕ
 term = 8 * volumeLimit
 
--- no term is left from number 20 on
-pub none-left : (n : ℕ) (vs : List ℤ) → Rep 0 (from (row n) vs 20) 0
-none-left n vs = subst (λ (z : ℤ). Rep 0 z 0) (sym (ap (λ (cs : List ℤ). dot integers cs (drop 20 vs)) end)) record { value = refl; magnitude = zero-le; room = lit< tt }
+-- bits that hold the sum of the entries from number k up to the row's end
+abbrev pub Summed : List ℕ → List ℤ → List ℤ → ℕ → ℕ → ℕ → Type 0
+Summed columns values vs sum k end = Rep sum (sparseDot vs (entries columns values k end)) ((end - k) * term)
+
+pub none-left : (columns : List ℕ) (values vs : List ℤ) (end : ℕ) → Summed columns values vs 0 end end
+none-left columns values vs end = subst (λ (m : ℕ). Rep 0 (sparseDot vs (tabulate (entryAt columns values) end m)) (m * term)) nothing record { value = refl; magnitude = zero-le; room = lit< tt }
   where
-    end : drop 20 (row n) ≡ []
-    end = drop-of-length-le (row n) {i = 20} (omega (arith, length-take 20 (drop (20 * n) table)))
+    nothing : 0 ≡ end - end
+    nothing = omega arith
 
--- the turn of the loop from k to k - 1
-module _ {xs vs : List ℤ} (t : IsTable xs) (h : InRange volumeLimit vs) (n k : ℕ) where
-  abbrev entry : ℤ
-  entry = getD xs (20 * n + (k - 1)) (pos 0)
+module _ {starts columns : List ℕ} {values vs : List ℤ} (t : AreSparseRows starts columns values) {n : ℕ} (l : n < 27) (h : InRange volumeLimit vs) where
+  abbrev first : ℕ
+  first = getD starts n 0
 
-  abbrev volume : ℤ
-  volume = getD vs (k - 1) (pos 0)
+  abbrev end : ℕ
+  end = getD starts (n + 1) 0
 
-  entry-held : Rep (ofZ w64 entry) entry 8
-  entry-held = leaf 8 entry (subst (λ (l : List ℤ). natAbs (getD l (20 * n + (k - 1)) (pos 0)) ≤ 8) (sym (t .same)) (entry-small (20 * n + (k - 1)))) tt
+  -- the turn of the loop from k to k - 1
+  module _ {k : ℕ} (more : first < k) (m : k ≤ end) where
+    entry-inside : k - 1 < 112
+    entry-inside = omega (arith, row-inside t n l)
 
-  volume-held : Rep (ofZ w64 volume) volume volumeLimit
-  volume-held = leaf volumeLimit volume (h .small (k - 1)) tt
+    pub column-inside : getD columns (k - 1) 0 < 20
+    column-inside = column-small t (k - 1) entry-inside
 
-  pub product-fits : SFits w64 (toZ w64 (ofZ w64 entry) *ℤ toZ w64 (ofZ w64 volume))
-  product-fits = mul-fits entry-held volume-held tt
+    abbrev value : ℤ
+    value = getD values (k - 1) (pos 0)
 
-  abbrev product : ℕ
-  product = ofZ w64 (toZ w64 (ofZ w64 entry) *ℤ toZ w64 (ofZ w64 volume))
+    abbrev volume : ℤ
+    volume = getD vs (getD columns (k - 1) 0) (pos 0)
 
-  product-held : Rep product (entry *ℤ volume) term
-  product-held = mul entry-held volume-held tt
+    value-held : Rep (ofZ w64 value) value 8
+    value-held = leaf 8 value (value-small t (k - 1) entry-inside) tt
 
-  module _ (l : 0 < k) (m : k ≤ 20) {s : ℕ} (r : Rep s (from (row n) vs k) ((20 - k) * term)) where
-    row-step : entry *ℤ volume +ℤ from (row n) vs k ≡ from (row n) vs (k - 1)
-    row-step = ap₂ (λ (x : ℤ) (j : ℕ). x *ℤ volume +ℤ from (row n) vs j) same next ∙ from-step (row n) vs (k - 1)
+    volume-held : Rep (ofZ w64 volume) volume volumeLimit
+    volume-held = leaf volumeLimit volume (h .small (getD columns (k - 1) 0)) tt
+
+    pub product-fits : SFits w64 (toZ w64 (ofZ w64 value) *ℤ toZ w64 (ofZ w64 volume))
+    product-fits = mul-fits value-held volume-held tt
+
+    abbrev product : ℕ
+    product = ofZ w64 (toZ w64 (ofZ w64 value) *ℤ toZ w64 (ofZ w64 volume))
+
+    product-held : Rep product (value *ℤ volume) term
+    product-held = mul value-held volume-held tt
+
+    entries-next : entries columns values (k - 1) end ≡ entryAt columns values (k - 1) ∷ entries columns values k end
+    entries-next = ap (tabulate (entryAt columns values) (k - 1)) longer ∙ ap (λ (j : ℕ). entryAt columns values (k - 1) ∷ tabulate (entryAt columns values) j (end - k)) next
       where
-        next : k ≡ suc (k - 1)
+        longer : end - (k - 1) ≡ suc (end - k)
+        longer = omega arith
+
+        next : suc (k - 1) ≡ k
         next = omega arith
 
-        same : entry ≡ getD (row n) (k - 1) (pos 0)
-        same = ap (λ (l : List ℤ). getD l (20 * n + (k - 1)) (pos 0)) (t .same)
-            ∙ sym (getD-take 20 (drop (20 * n) table) (k - 1) (pos 0) (omega arith) ∙ getD-drop (20 * n) table (k - 1) (pos 0))
+    module _ {s : ℕ} (r : Summed columns values vs s k end) where
+      pub sum-fits : SFits w64 (toZ w64 product +ℤ toZ w64 s)
+      sum-fits = add-fits-under product-held r (omega (arith, row-short t n l))
 
-    pub sum-fits : SFits w64 (toZ w64 product +ℤ toZ w64 s)
-    sum-fits = add-fits-under product-held r (omega arith)
+      pub sum-held : Summed columns values vs (ofZ w64 (toZ w64 product +ℤ toZ w64 s)) (k - 1) end
+      sum-held = subst (λ (z : ℤ). Rep (ofZ w64 (toZ w64 product +ℤ toZ w64 s)) z ((end - (k - 1)) * term)) (ap (sparseDot vs) (sym entries-next))
+          (weaken (add-under product-held r (omega (arith, row-short t n l))) (omega arith) (omega (arith, row-short t n l)))
 
-    pub sum-held : Rep (ofZ w64 (toZ w64 product +ℤ toZ w64 s)) (from (row n) vs (k - 1)) ((20 - (k - 1)) * term)
-    sum-held = subst (λ (z : ℤ). Rep (ofZ w64 (toZ w64 product +ℤ toZ w64 s)) z ((20 - (k - 1)) * term)) row-step
-        (weaken (add-under product-held r (omega arith)) (omega arith) (omega arith))
+  -- the whole list
+  pub row-summed : {s k : ℕ} → k ≡ first → Summed columns values vs s k end → toZ w64 s ≡ dot integers (row n) vs
+  row-summed e r = r .value ∙ ap (λ (k : ℕ). sparseDot vs (entries columns values k end)) e ∙ ap (sparseDot vs) (row-held t n l) ∙ sparse-dot vs n

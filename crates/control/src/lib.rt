@@ -1,7 +1,7 @@
 // The 27 Bézier coefficients (control values) of the Jacobian determinant, from an element's eight points.
 //
 // An inner crate: the inspector's other crates use it, callers of the inspector do not. It refuses nothing, so whoever calls it has tested
-// the coordinates. It offers `coefficients`, and in `table` the constant table with what it holds.
+// the coordinates. It offers `coefficients`.
 ghost use mathlib.Core.Path.{_≡_};
 ghost use Prim.Native.Nat.{_<_};
 ghost use Rattle.foundation.specs.Lists.{tabulate};
@@ -9,58 +9,70 @@ ghost use Rattle.foundation.specs.Polynomial.{integers};
 ghost use Rattle.definitions.specs.Limits.{base};
 ghost use Rattle.definitions.specs.Coefficients.{row, dot, coefficients};
 ghost use Rattle.control.specs.Range.{InRange, volumeLimit};
-ghost use Rattle.control.specs.Table.{IsTable};
+ghost use Rattle.table.specs.Sparse.{AreSparseRows};
 
-pub mod table;
 mod volume;
 
-// Row n of the table against the twenty volumes, added up from the last to the first, as the definition nests its sum.
-fn row(table: &[i64; 540], n: usize, v: &[i64; 20]) -> i64
-    requires { ⌜ IsTable (now table) ⌝ ∗ ⌜ n < 27 ⌝ ∗ ⌜ InRange volumeLimit (now v) ⌝ }
+// Row n of the table against the twenty volumes: its non-zero places, added up from the last to the first, as the definition nests its sum.
+fn row(
+    starts: &[usize; 28],
+    columns: &[usize; 112],
+    values: &[i64; 112],
+    n: usize,
+    v: &[i64; 20],
+) -> i64
+    requires { ⌜ AreSparseRows (now starts) (now columns) (now values) ⌝ ∗ ⌜ n < 27 ⌝ ∗ ⌜ InRange volumeLimit (now v) ⌝ }
     ensures { λ r. ⌜ r ≡ dot integers (row n) (now (v .entry)) ⌝ }
 {
+    let first = starts[n];
     let mut sum: i64 = 0;
-    let mut k: usize = 20;
-    while 0 < k {
+    let mut k = starts[n + 1];
+    while first < k {
         k -= 1;
-        sum = table[20 * n + k] * v[k] + sum;
+        let column = columns[k];
+        sum = values[k] * v[column] + sum;
     }
     sum
 }
 
-// All 27 rows, each by a call with its number written out: so the compiler knows the entries and leaves out what is times 0.
-fn rows(table: &[i64; 540], v: &[i64; 20]) -> [i64; 27]
-    requires { ⌜ IsTable (now table) ⌝ ∗ ⌜ InRange volumeLimit (now v) ⌝ }
+// All 27 rows, each by a call with its number written out: so the compiler knows its list and writes out its sum.
+fn rows(
+    starts: &[usize; 28],
+    columns: &[usize; 112],
+    values: &[i64; 112],
+    v: &[i64; 20],
+) -> [i64; 27]
+    requires { ⌜ AreSparseRows (now starts) (now columns) (now values) ⌝ ∗ ⌜ InRange volumeLimit (now v) ⌝ }
     ensures { λ r. ⌜ r ≡ tabulate (λ n. dot integers (row n) (now (v .entry))) 0 27 ⌝ }
 {
     [
-        row(table, 0, v),
-        row(table, 1, v),
-        row(table, 2, v),
-        row(table, 3, v),
-        row(table, 4, v),
-        row(table, 5, v),
-        row(table, 6, v),
-        row(table, 7, v),
-        row(table, 8, v),
-        row(table, 9, v),
-        row(table, 10, v),
-        row(table, 11, v),
-        row(table, 12, v),
-        row(table, 13, v),
-        row(table, 14, v),
-        row(table, 15, v),
-        row(table, 16, v),
-        row(table, 17, v),
-        row(table, 18, v),
-        row(table, 19, v),
-        row(table, 20, v),
-        row(table, 21, v),
-        row(table, 22, v),
-        row(table, 23, v),
-        row(table, 24, v),
-        row(table, 25, v),
-        row(table, 26, v),
+        row(starts, columns, values, 0, v),
+        row(starts, columns, values, 1, v),
+        row(starts, columns, values, 2, v),
+        row(starts, columns, values, 3, v),
+        row(starts, columns, values, 4, v),
+        row(starts, columns, values, 5, v),
+        row(starts, columns, values, 6, v),
+        row(starts, columns, values, 7, v),
+        row(starts, columns, values, 8, v),
+        row(starts, columns, values, 9, v),
+        row(starts, columns, values, 10, v),
+        row(starts, columns, values, 11, v),
+        row(starts, columns, values, 12, v),
+        row(starts, columns, values, 13, v),
+        row(starts, columns, values, 14, v),
+        row(starts, columns, values, 15, v),
+        row(starts, columns, values, 16, v),
+        row(starts, columns, values, 17, v),
+        row(starts, columns, values, 18, v),
+        row(starts, columns, values, 19, v),
+        row(starts, columns, values, 20, v),
+        row(starts, columns, values, 21, v),
+        row(starts, columns, values, 22, v),
+        row(starts, columns, values, 23, v),
+        row(starts, columns, values, 24, v),
+        row(starts, columns, values, 25, v),
+        row(starts, columns, values, 26, v),
     ]
 }
 
@@ -69,7 +81,10 @@ pub fn coefficients(p: &[i32; 24], out: &mut [i64; 27])
     requires { ⌜ InRange (base .range) (now p) ⌝ }
     ensures { λ _. ⌜ now (out .exit) ≡ coefficients (now (p .entry)) ⌝ }
 {
-    let t = table::copy();
+    let s = table::sparse::lists();
+    let starts = s.starts;
+    let columns = s.columns;
+    let values = s.values;
     let v = volume::volumes(p);
-    *out = rows(&t, &v);
+    *out = rows(&starts, &columns, &values, &v);
 }

@@ -1,16 +1,22 @@
-//! The product's own method in ordinary Rust: twenty volumes, the table of 540
-//! read in full, coefficients in the order of their numbers, one pass of the
-//! search for every level, children made by halves, and those of a half without
-//! a low coefficient passed over.  The table and the rows are looped over; in the
-//! library their numbers are written out.
+//! The product's own method in ordinary Rust: twenty volumes, each row of the
+//! table from the list of its non-zero places, coefficients in the order of their
+//! numbers, one pass of the search for every level, children made by halves, and
+//! those of a half without a low coefficient passed over.  The rows and their
+//! lists are looped over; in the library the numbers of the rows are written out.
 
 use crate::mesh::{
     determinant, difference, invalid, sum, undecided, valid, Answer, Record, CORNERS,
 };
 
-/// 27 rows of 20: corners and edges (in quarters) to eight times the
-/// coefficients.
-static TABLE: [i64; 540] = table();
+/// The table's rows without their zeros: where each row's list starts, the
+/// places in it and the numbers at them.
+struct Lists {
+    starts: [usize; 28],
+    columns: [usize; 112],
+    values: [i64; 112],
+}
+
+static LISTS: Lists = lists(table());
 
 /// "edges 1-2, 2-3, 3-4, 1-4, 1-5, 2-6, 3-7, 4-8, 5-6, 6-7, 7-8, 5-8", from 0.
 const EDGES: [[usize; 2]; 12] = [
@@ -37,6 +43,8 @@ const fn on_face(corner: usize, face: usize) -> bool {
     corner == f[0] || corner == f[1] || corner == f[2] || corner == f[3]
 }
 
+/// 27 rows of 20: corners and edges (in quarters) to eight times the
+/// coefficients.
 /// "a corner row holds 8; an edge row 4 and twice -4; a face row four times 2
 /// and four times -6; the centre row twelve times 1 and eight times -5."
 const fn table() -> [i64; 540] {
@@ -87,6 +95,24 @@ const fn table() -> [i64; 540] {
         k += 1;
     }
     table
+}
+
+const fn lists(table: [i64; 540]) -> Lists {
+    let mut lists = Lists { starts: [0; 28], columns: [0; 112], values: [0; 112] };
+    let mut held = 0;
+    let mut at = 0;
+    while at < table.len() {
+        if table[at] != 0 {
+            lists.columns[held] = at % 20;
+            lists.values[held] = table[at];
+            held += 1;
+        }
+        at += 1;
+        if at % 20 == 0 {
+            lists.starts[at / 20] = held;
+        }
+    }
+    lists
 }
 
 /// The nine rows of three coefficients in xi, eta and zeta, by their numbers
@@ -147,12 +173,13 @@ fn volumes(n: &[[i64; 3]; 8]) -> [i64; 20] {
     ]
 }
 
-/// The 27 coefficients, times 8: every row of the table against the volumes.
+/// The 27 coefficients, times 8: the list of every row against the volumes.
 fn coefficients(n: &[[i64; 3]; 8]) -> Net {
     let volumes = volumes(n);
     let mut net = [0; 27];
-    for (coefficient, row) in net.iter_mut().zip(TABLE.chunks_exact(20)) {
-        *coefficient = row.iter().zip(&volumes).map(|(entry, volume)| entry * volume).sum();
+    for (coefficient, ends) in net.iter_mut().zip(LISTS.starts.windows(2)) {
+        let (columns, values) = (&LISTS.columns[ends[0]..ends[1]], &LISTS.values[ends[0]..ends[1]]);
+        *coefficient = columns.iter().zip(values).map(|(&at, value)| value * volumes[at]).sum();
     }
     net
 }

@@ -1,4 +1,4 @@
--- The rows of a copy of the table against the volumes of the points.
+-- The rows, by their lists, against the volumes of the points.
 use borrow.Author.Needs.{needs}
 use mathlib.Core.Path.{_≡_, sym, subst}
 use mathlib.Core.List.{List}
@@ -17,17 +17,21 @@ coefficients-are : (xs : List ℤ) {vs cs : List ℤ} → vs ≡ volumes integer
 unfolding coefficients
 coefficients-are xs {cs = cs} p q = subst (λ ws. cs ≡ tabulate (λ n. dot integers (row n) ws) 0 27) p q
 
-copy-requires : tie.Need-copy-requires
-copy-requires c κs = search needs
+lists-requires : tie.Need-lists-requires
+lists-requires c κs = search needs
 
 volumes-requires : tie.Need-volumes-requires
 volumes-requires c κs = search needs
 
+-- what is known after the call of volumes, seen from the call of rows
+abbrev called : tie.After-v → tie.After-volumes
+called c = c .before .before .before .before
+
 rows-requires : tie.Need-rows-requires
-rows-requires c κs = let d = c .before .before in (d .before .copy .ensures, subst (InRange volumeLimit) (sym (d .volumes .ensures)) (volumes-small (d .before .before .pre)))
+rows-requires c κs = let d = called c in let l = d .before .before .before .before in (l .lists .ensures, subst (InRange volumeLimit) (sym (d .volumes .ensures)) (volumes-small (l .before .pre)))
 
 returns : tie.Need-returns
-returns c = let d = c .before .before .before in coefficients-are (d .before .before .args .p .now) (d .volumes .ensures) (c .rows .ensures)
+returns c = let d = called (c .before) in coefficients-are (d .before .before .before .before .before .args .p .now) (d .volumes .ensures) (c .rows .ensures)
 
 pub coefficients-spec : {M : Type 1} → statement M
-coefficients-spec = tie.close (tie.spec copy-requires volumes-requires rows-requires returns)
+coefficients-spec = tie.close (tie.spec lists-requires volumes-requires rows-requires returns)

@@ -1,5 +1,4 @@
 -- The rows one by one.
-use borrow.Author.Needs.{needs}
 use mathlib.Core.Path.{_≡_}
 use mathlib.Core.List.{List, [], _∷_}
 use Prim.Native.Nat.{ℕ, _^_, _<_}
@@ -18,90 +17,102 @@ use Rattle.control.proofs.rows.Tie as tie
 row-read : (vs : List ℤ) (n : ℕ) {r : ℤ} → mag r < 2 ^ 63 → r ≡ dot integers (row n) vs → toZ w64 (ofZ w64 r) ≡ dot integers (row n) vs
 row-read vs n = read-back
 
--- the function's entry, seen after row 12
-abbrev entry : tie.After-row12 → tie.Start
-entry c = c .before .before .before .before .before .before .before .before .before .before .before .before
+-- the function's entry, seen after row 5, 10, 15, 20 and 25
+abbrev entry5 : tie.After-row5 → tie.Start
+entry5 c = c .before .before .before .before .before
+
+abbrev entry10 : tie.After-row10 → tie.Start
+entry10 c = entry5 (c .before .before .before .before .before)
+
+abbrev entry15 : tie.After-row15 → tie.Start
+entry15 c = entry10 (c .before .before .before .before .before)
+
+abbrev entry20 : tie.After-row20 → tie.Start
+entry20 c = entry15 (c .before .before .before .before .before)
+
+abbrev entry25 : tie.After-row25 → tie.Start
+entry25 c = entry20 (c .before .before .before .before .before)
 
 row-requires : tie.Need-row-requires
-row-requires c κs = search needs
+row-requires c κs = let s = c in (s .pre .0, (lit< tt, s .pre .1))
 
 row-requires-2 : tie.Need-row-requires-2
-row-requires-2 c κs = search needs
+row-requires-2 c κs = let s = c .before in (s .pre .0, (lit< tt, s .pre .1))
 
 row-requires-3 : tie.Need-row-requires-3
-row-requires-3 c κs = search needs
+row-requires-3 c κs = let s = c .before .before in (s .pre .0, (lit< tt, s .pre .1))
 
 row-requires-4 : tie.Need-row-requires-4
-row-requires-4 c κs = search needs
+row-requires-4 c κs = let s = c .before .before .before in (s .pre .0, (lit< tt, s .pre .1))
 
 row-requires-5 : tie.Need-row-requires-5
-row-requires-5 c κs = search needs
+row-requires-5 c κs = let s = c .before .before .before .before in (s .pre .0, (lit< tt, s .pre .1))
 
 row-requires-6 : tie.Need-row-requires-6
-row-requires-6 c κs = search needs
+row-requires-6 c κs = let s = entry5 c in (s .pre .0, (lit< tt, s .pre .1))
 
 row-requires-7 : tie.Need-row-requires-7
-row-requires-7 c κs = search needs
+row-requires-7 c κs = let s = entry5 (c .before) in (s .pre .0, (lit< tt, s .pre .1))
 
 row-requires-8 : tie.Need-row-requires-8
-row-requires-8 c κs = search needs
+row-requires-8 c κs = let s = entry5 (c .before .before) in (s .pre .0, (lit< tt, s .pre .1))
 
 row-requires-9 : tie.Need-row-requires-9
-row-requires-9 c κs = search needs
+row-requires-9 c κs = let s = entry5 (c .before .before .before) in (s .pre .0, (lit< tt, s .pre .1))
 
 row-requires-10 : tie.Need-row-requires-10
-row-requires-10 c κs = search needs
+row-requires-10 c κs = let s = entry5 (c .before .before .before .before) in (s .pre .0, (lit< tt, s .pre .1))
 
 row-requires-11 : tie.Need-row-requires-11
-row-requires-11 c κs = search needs
+row-requires-11 c κs = let s = entry10 c in (s .pre .0, (lit< tt, s .pre .1))
 
 row-requires-12 : tie.Need-row-requires-12
-row-requires-12 c κs = search needs
+row-requires-12 c κs = let s = entry10 (c .before) in (s .pre .0, (lit< tt, s .pre .1))
 
 row-requires-13 : tie.Need-row-requires-13
-row-requires-13 c κs = let s = entry c in (s .pre .0, (lit< tt, s .pre .1))
+row-requires-13 c κs = let s = entry10 (c .before .before) in (s .pre .0, (lit< tt, s .pre .1))
 
 row-requires-14 : tie.Need-row-requires-14
-row-requires-14 c κs = let s = entry (c .before) in (s .pre .0, (lit< tt, s .pre .1))
+row-requires-14 c κs = let s = entry10 (c .before .before .before) in (s .pre .0, (lit< tt, s .pre .1))
 
 row-requires-15 : tie.Need-row-requires-15
-row-requires-15 c κs = let s = entry (c .before .before) in (s .pre .0, (lit< tt, s .pre .1))
+row-requires-15 c κs = let s = entry10 (c .before .before .before .before) in (s .pre .0, (lit< tt, s .pre .1))
 
 row-requires-16 : tie.Need-row-requires-16
-row-requires-16 c κs = let s = entry (c .before .before .before) in (s .pre .0, (lit< tt, s .pre .1))
+row-requires-16 c κs = let s = entry15 c in (s .pre .0, (lit< tt, s .pre .1))
 
 row-requires-17 : tie.Need-row-requires-17
-row-requires-17 c κs = let s = entry (c .before .before .before .before) in (s .pre .0, (lit< tt, s .pre .1))
+row-requires-17 c κs = let s = entry15 (c .before) in (s .pre .0, (lit< tt, s .pre .1))
 
 row-requires-18 : tie.Need-row-requires-18
-row-requires-18 c κs = let s = entry (c .before .before .before .before .before) in (s .pre .0, (lit< tt, s .pre .1))
+row-requires-18 c κs = let s = entry15 (c .before .before) in (s .pre .0, (lit< tt, s .pre .1))
 
 row-requires-19 : tie.Need-row-requires-19
-row-requires-19 c κs = let s = entry (c .before .before .before .before .before .before) in (s .pre .0, (lit< tt, s .pre .1))
+row-requires-19 c κs = let s = entry15 (c .before .before .before) in (s .pre .0, (lit< tt, s .pre .1))
 
 row-requires-20 : tie.Need-row-requires-20
-row-requires-20 c κs = let s = entry (c .before .before .before .before .before .before .before) in (s .pre .0, (lit< tt, s .pre .1))
+row-requires-20 c κs = let s = entry15 (c .before .before .before .before) in (s .pre .0, (lit< tt, s .pre .1))
 
 row-requires-21 : tie.Need-row-requires-21
-row-requires-21 c κs = let s = entry (c .before .before .before .before .before .before .before .before) in (s .pre .0, (lit< tt, s .pre .1))
+row-requires-21 c κs = let s = entry20 c in (s .pre .0, (lit< tt, s .pre .1))
 
 row-requires-22 : tie.Need-row-requires-22
-row-requires-22 c κs = let s = entry (c .before .before .before .before .before .before .before .before .before) in (s .pre .0, (lit< tt, s .pre .1))
+row-requires-22 c κs = let s = entry20 (c .before) in (s .pre .0, (lit< tt, s .pre .1))
 
 row-requires-23 : tie.Need-row-requires-23
-row-requires-23 c κs = let s = entry (c .before .before .before .before .before .before .before .before .before .before) in (s .pre .0, (lit< tt, s .pre .1))
+row-requires-23 c κs = let s = entry20 (c .before .before) in (s .pre .0, (lit< tt, s .pre .1))
 
 row-requires-24 : tie.Need-row-requires-24
-row-requires-24 c κs = let s = entry (c .before .before .before .before .before .before .before .before .before .before .before) in (s .pre .0, (lit< tt, s .pre .1))
+row-requires-24 c κs = let s = entry20 (c .before .before .before) in (s .pre .0, (lit< tt, s .pre .1))
 
 row-requires-25 : tie.Need-row-requires-25
-row-requires-25 c κs = let s = entry (c .before .before .before .before .before .before .before .before .before .before .before .before) in (s .pre .0, (lit< tt, s .pre .1))
+row-requires-25 c κs = let s = entry20 (c .before .before .before .before) in (s .pre .0, (lit< tt, s .pre .1))
 
 row-requires-26 : tie.Need-row-requires-26
-row-requires-26 c κs = let s = entry (c .before .before .before .before .before .before .before .before .before .before .before .before .before) in (s .pre .0, (lit< tt, s .pre .1))
+row-requires-26 c κs = let s = entry25 c in (s .pre .0, (lit< tt, s .pre .1))
 
 row-requires-27 : tie.Need-row-requires-27
-row-requires-27 c κs = let s = entry (c .before .before .before .before .before .before .before .before .before .before .before .before .before .before) in (s .pre .0, (lit< tt, s .pre .1))
+row-requires-27 c κs = let s = entry25 (c .before) in (s .pre .0, (lit< tt, s .pre .1))
 
 returns : tie.Need-returns
 returns c =

@@ -1,5 +1,5 @@
-// The table that turns the twenty volumes into the 27 coefficients.
-ghost use Rattle.control.specs.Table.{IsTable};
+// The table in full.
+ghost use Rattle.table.specs.Table.{IsTable};
 
 // 27 rows of 20 entries: eight for the corners' volumes, then twelve for the edges'. A row's number and place stand at its first entry.
 pub const TABLE: [i64; 540] = [
@@ -545,8 +545,7 @@ pub const TABLE: [i64; 540] = [
     1,
 ];
 
-// A copy of the table, lent to the 27 rows of an element. Each row is a call with its number written out, so that the compiler reads the
-// entries itself and makes no copy.
+// A copy of the table.
 pub fn copy() -> [i64; 540]
     ensures { λ r. ⌜ IsTable r ⌝ }
 {

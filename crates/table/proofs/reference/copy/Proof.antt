@@ -1,7 +1,7 @@
 -- The constant is the table: one comparison of all 540 entries.
 use mathlib.Core.Path.{refl}
-use Rattle.control.proofs.table.copy.Statement.{statement}
-use Rattle.control.proofs.table.copy.Tie as tie
+use Rattle.table.proofs.reference.copy.Statement.{statement}
+use Rattle.table.proofs.reference.copy.Tie as tie
 
 returns : tie.Need-returns
 returns c = record { same = refl }
