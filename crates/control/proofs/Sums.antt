@@ -13,10 +13,11 @@ use Rattle.foundation.specs.Polynomial.{integers}
 use Rattle.foundation.specs.Held.{Rep, leaf, weaken, mul, mul-fits, add-under, add-fits-under}
 use Rattle.definitions.specs.Coefficients.{row, dot}
 use Rattle.control.specs.Range.{InRange, volumeLimit}
-use Rattle.table.specs.Sparse.{AreSparseRows}
+use Rattle.table.specs.Sparse.{AreSparseRows, entryAt, entries}
 use Rattle.table.specs.SparseSum.{sparseDot, sparse-dot}
-use Rattle.table.specs.SparseRuns.{entryAt, entries, row-held, row-short, row-inside, column-small, value-small}
+use Rattle.table.specs.SparseRuns.{row-held, row-short, row-inside, column-small, value-small}
 
+-- the most that one product can be
 abbrev pub term : ℕ
 term = 8 * volumeLimit
 
@@ -25,10 +26,10 @@ abbrev pub Summed : List ℕ → List ℤ → List ℤ → ℕ → ℕ → ℕ �
 Summed columns values vs sum k end = Rep sum (sparseDot vs (entries columns values k end)) ((end - k) * term)
 
 pub none-left : (columns : List ℕ) (values vs : List ℤ) (end : ℕ) → Summed columns values vs 0 end end
-none-left columns values vs end = subst (λ (m : ℕ). Rep 0 (sparseDot vs (tabulate (entryAt columns values) end m)) (m * term)) nothing record { value = refl; magnitude = zero-le; room = lit< tt }
+none-left columns values vs end = subst (λ (m : ℕ). Rep 0 (sparseDot vs (tabulate (entryAt columns values) end m)) (m * term)) none record { value = refl; magnitude = zero-le; room = lit< tt }
   where
-    nothing : 0 ≡ end - end
-    nothing = omega arith
+    none : 0 ≡ end - end
+    none = omega arith
 
 module _ {starts columns : List ℕ} {values vs : List ℤ} (t : AreSparseRows starts columns values) {n : ℕ} (l : n < 27) (h : InRange volumeLimit vs) where
   abbrev first : ℕ

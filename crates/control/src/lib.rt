@@ -13,7 +13,8 @@ ghost use Rattle.table.specs.Sparse.{AreSparseRows};
 
 mod volume;
 
-// Row n of the table against the twenty volumes: its non-zero places, added up from the last to the first, as the definition nests its sum.
+// Row n of the table against the twenty volumes: the terms of its non-zero places, added up from the last to the first, as the definition
+// nests its sum.
 fn row(
     starts: &[usize; 28],
     columns: &[usize; 112],
@@ -81,10 +82,10 @@ pub fn coefficients(p: &[i32; 24], out: &mut [i64; 27])
     requires { ⌜ InRange (base .range) (now p) ⌝ }
     ensures { λ _. ⌜ now (out .exit) ≡ coefficients (now (p .entry)) ⌝ }
 {
-    let s = table::sparse::lists();
-    let starts = s.starts;
-    let columns = s.columns;
-    let values = s.values;
+    let lists = table::sparse::lists();
+    let starts = lists.starts;
+    let columns = lists.columns;
+    let values = lists.values;
     let v = volume::volumes(p);
     *out = rows(&starts, &columns, &values, &v);
 }

@@ -116,8 +116,8 @@ getD-tabulate f i (suc n) zero d h = ap f (omega arith)
 getD-tabulate f i (suc n) (suc k) d h = let e : suc i + k ≡ i + suc k = omega arith in getD-tabulate f (suc i) n k d (omega arith) ∙ ap f e
 
 -- two functions that give one list agree at each of its numbers
-pub tabulated : {A : Type 0} (f g : ℕ → A) (m : ℕ) → tabulate f 0 m ≡ tabulate g 0 m → (n : ℕ) → n < m → f n ≡ g n
-tabulated {A} f g m e n h = sym (at f) ∙ ap (λ l. getD l n (f n)) e ∙ at g
+pub tabulate-agree : {A : Type 0} (f g : ℕ → A) (m : ℕ) → tabulate f 0 m ≡ tabulate g 0 m → (n : ℕ) → n < m → f n ≡ g n
+tabulate-agree {A} f g m e n h = sym (at f) ∙ ap (λ l. getD l n (f n)) e ∙ at g
   where
     at : (k : ℕ → A) → getD (tabulate k 0 m) n (f n) ≡ k n
     at k = let z : 0 + n ≡ n = omega arith in getD-tabulate k 0 m n (f n) h ∙ ap k z

@@ -9,9 +9,10 @@ use lib.Dec.{eqb}
 use lib.ListN.{getD, drop, length, length-take, List·getD-eq-default}
 use lib.Seq.{getD-take, getD-drop}
 use lib.IntN.{ℤ, pos, negsuc}
+use Rattle.foundation.specs.Lists.{concatMap, tabulate}
 use Rattle.definitions.specs.Coefficients.{table, row}
-use Rattle.table.specs.Sparse.{Entry, isZero, nonZeroFrom, sparseRow, sparseRows, AreSparseRows}
-use Rattle.table.specs.SparseRuns.{heldRow, computed, row-held}
+use Rattle.table.specs.Sparse.{Entry, isZero, kept, nonZeroFrom, sparseRow, AreSparseRows, entries, heldRow}
+use Rattle.table.specs.SparseRuns.{transfer, row-held}
 
 -- the numbers that a list has at place k
 abbrev pub valuesAt : ℕ → List Entry → List ℤ
@@ -22,27 +23,26 @@ valuesAt k (e ∷ es) = elim (eqb (e .column) k) [ true ↦ e .value ∷ valuesA
 abbrev pub unlessZero : ℤ → List ℤ
 unlessZero c = elim (isZero c) [ true ↦ [] | false ↦ c ∷ [] ]
 
--- of the runs that hold the lists
+-- of runs that hold 27 lists
 pub record AllOnce (starts columns : List ℕ) (values : List ℤ) : Type 0 where
-  -- "all 112 such places": the lists are the 112 entries of the runs, from the first to the last
-  pub all : (getD starts 0 0 ≡ 0) × (getD starts 27 0 ≡ 112) × (length columns ≡ 112) × (length values ≡ 112)
-  -- "each once": at each place of its row a list has the table's number, or nothing where that is 0
+  -- "112": so many numbers of the table are not 0, and so many entries the runs have
+  pub number : (length (nonZeroFrom 0 table) ≡ 112) × (length columns ≡ 112) × (length values ≡ 112)
+  -- the 27 lists, one after the other, are all of these entries
+  pub whole : concatMap (heldRow starts columns values) (tabulate (λ n. n) 0 27) ≡ entries columns values 0 112
+  -- "all .. such places, each once, and no other": at each place of its row a list has the table's number, once, or nothing where that is 0
   pub once : (n k : ℕ) → n < 27 → k < 20 → valuesAt k (heldRow starts columns values n) ≡ unlessZero (getD table (20 * n + k) (pos 0))
-  -- "and no other"
-  pub no-other : (n k : ℕ) → n < 27 → 20 ≤ k → valuesAt k (heldRow starts columns values n) ≡ []
+  -- and nothing past the row's 20 places
+  pub none-past : (n k : ℕ) → n < 27 → 20 ≤ k → valuesAt k (heldRow starts columns values n) ≡ []
 
 -- ---- the non-zero places of any list of numbers
-abbrev kept : ℕ → ℤ → List Entry → List Entry
-kept k c es = elim (isZero c) [ true ↦ es | false ↦ record { column = k; value = c } ∷ es ]
-
-abbrev listed : ℤ → List ℤ → Bool → List ℤ
-listed c l b = elim b [ true ↦ c ∷ l | false ↦ l ]
+abbrev consIf : Bool → ℤ → List ℤ → List ℤ
+consIf b c l = elim b [ true ↦ c ∷ l | false ↦ l ]
 
 here : (k : ℕ) (c : ℤ) (es : List Entry) → valuesAt k (record { column = k; value = c } ∷ es) ≡ c ∷ valuesAt k es
-here k c es = ap (listed c (valuesAt k es)) (eq-eqb k k refl)
+here k c es = ap (λ (b : Bool). consIf b c (valuesAt k es)) (eq-eqb k k refl)
 
 elsewhere : (j k : ℕ) (c : ℤ) (es : List Entry) → (k ≡ j → ⊥) → valuesAt j (record { column = k; value = c } ∷ es) ≡ valuesAt j es
-elsewhere j k c es h = ap (listed c (valuesAt j es)) (ne-eqb k j h)
+elsewhere j k c es h = ap (λ (b : Bool). consIf b c (valuesAt j es)) (ne-eqb k j h)
 
 kept-here : (k : ℕ) (c : ℤ) (es : List Entry) → valuesAt k es ≡ [] → valuesAt k (kept k c es) ≡ unlessZero c
 kept-here k (pos zero) es h = h
@@ -73,12 +73,13 @@ values-of n k = let e : k ≡ 0 + k = omega arith in ap (λ (i : ℕ). valuesAt 
 entry-of : (n k : ℕ) → k < 20 → getD (row n) k (pos 0) ≡ getD table (20 * n + k) (pos 0)
 entry-of n k h = getD-take 20 (drop (20 * n) table) k (pos 0) h ∙ getD-drop (20 * n) table k (pos 0)
 
-none-past : (n k : ℕ) → 20 ≤ k → getD (row n) k (pos 0) ≡ pos 0
-none-past n k h = List·getD-eq-default (row n) (pos 0) (omega (arith, length-take 20 (drop (20 * n) table)))
+zero-past : (n k : ℕ) → 20 ≤ k → getD (row n) k (pos 0) ≡ pos 0
+zero-past n k h = List·getD-eq-default (row n) (pos 0) (omega (arith, length-take 20 (drop (20 * n) table)))
 
 pub all-once : {starts columns : List ℕ} {values : List ℤ} → AreSparseRows starts columns values → AllOnce starts columns values
 all-once h = record {
-  all = computed h (λ s c v. (getD s 0 0 ≡ 0) × (getD s 27 0 ≡ 112) × (length c ≡ 112) × (length v ≡ 112)) (refl, refl, refl, refl);
+  number = transfer h (λ s c v. (length (nonZeroFrom 0 table) ≡ 112) × (length c ≡ 112) × (length v ≡ 112)) (refl, refl, refl);
+  whole = transfer h (λ s c v. concatMap (heldRow s c v) (tabulate (λ n. n) 0 27) ≡ entries c v 0 112) refl;
   once = λ n k l m. ap (valuesAt k) (row-held h n l) ∙ values-of n k ∙ ap unlessZero (entry-of n k m);
-  no-other = λ n k l m. ap (valuesAt k) (row-held h n l) ∙ values-of n k ∙ ap unlessZero (none-past n k m);
+  none-past = λ n k l m. ap (valuesAt k) (row-held h n l) ∙ values-of n k ∙ ap unlessZero (zero-past n k m);
 }

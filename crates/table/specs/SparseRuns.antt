@@ -1,42 +1,31 @@
--- The three runs hold the 27 lists, each from its start up to the next one's; how far their numbers go. Each fact is one computed test.
+-- The three runs hold the 27 lists; bounds on their numbers. Each fact is one computed test of the runs that the table gives.
 use mathlib.Core.Path.{_≡_, refl, sym, subst}
 use mathlib.Core.Bool.{Bool}
 use mathlib.Core.List.{List}
-use Prim.Native.Nat.{ℕ, suc, _+_, _-_, _<_, _≤_}
+use Prim.Native.Nat.{ℕ, suc, _+_, _<_, _≤_}
 use lib.Dec.{T, leb, leb→le}
 use lib.ListN.{getD}
 use lib.IntN.{ℤ, pos, natAbs}
-use Rattle.foundation.specs.Lists.{tabulate, tabulated, allBelow, below}
-use Rattle.table.specs.Sparse.{Entry, sparseRow, tableStarts, tableColumns, tableValues, AreSparseRows}
-
-abbrev pub entryAt : List ℕ → List ℤ → ℕ → Entry
-entryAt columns values k = record { column = getD columns k 0; value = getD values k (pos 0) }
-
--- from number i up to number j
-abbrev pub entries : List ℕ → List ℤ → ℕ → ℕ → List Entry
-entries columns values i j = tabulate (entryAt columns values) i (j - i)
-
--- the list of row n, as the runs hold it
-abbrev pub heldRow : List ℕ → List ℕ → List ℤ → ℕ → List Entry
-heldRow starts columns values n = entries columns values (getD starts n 0) (getD starts (n + 1) 0)
+use Rattle.foundation.specs.Lists.{tabulate, tabulate-agree, allBelow, below}
+use Rattle.table.specs.Sparse.{sparseRow, tableStarts, tableColumns, tableValues, AreSparseRows, heldRow}
 
 module _ {starts columns : List ℕ} {values : List ℤ} (h : AreSparseRows starts columns values) where
-  -- what is computed of the table's runs holds of these
-  pub computed : (P : List ℕ → List ℕ → List ℤ → Type 0) → P tableStarts tableColumns tableValues → P starts columns values
-  computed P = subst (λ (t : List ℕ × (List ℕ × List ℤ)). P (t .0) (t .1 .0) (t .1 .1)) (sym (h .same))
+  -- what holds of the table's runs holds of these
+  pub transfer : (P : List ℕ → List ℕ → List ℤ → Type 0) → P tableStarts tableColumns tableValues → P starts columns values
+  transfer P = subst (λ (t : List ℕ × (List ℕ × List ℤ)). P (t .0) (t .1 .0) (t .1 .1)) (sym (h .same))
 
   compared : (f g : List ℕ → List ℕ → List ℤ → ℕ → ℕ) (m : ℕ) → T (allBelow m (λ k. leb (f tableStarts tableColumns tableValues k) (g tableStarts tableColumns tableValues k)))
       → (k : ℕ) → k < m → f starts columns values k ≤ g starts columns values k
-  compared f g m t k l = leb→le (f starts columns values k) (g starts columns values k) (below (test starts columns values) m (computed (λ s c v. T (allBelow m (test s c v))) t) k l)
+  compared f g m t k l = leb→le (f starts columns values k) (g starts columns values k) (below (test starts columns values) m (transfer (λ s c v. T (allBelow m (test s c v))) t) k l)
     where
       test : List ℕ → List ℕ → List ℤ → ℕ → Bool
       test s c v k = leb (f s c v k) (g s c v k)
 
   pub row-held : (n : ℕ) → n < 27 → heldRow starts columns values n ≡ sparseRow n
-  row-held = tabulated (heldRow starts columns values) sparseRow 27 (computed (λ s c v. tabulate (heldRow s c v) 0 27 ≡ tabulate sparseRow 0 27) refl)
+  row-held = tabulate-agree (heldRow starts columns values) sparseRow 27 (transfer (λ s c v. tabulate (heldRow s c v) 0 27 ≡ tabulate sparseRow 0 27) refl)
 
-  pub starts-rise : (n : ℕ) → n < 27 → getD starts n 0 ≤ getD starts (n + 1) 0
-  starts-rise = compared (λ s c v n. getD s n 0) (λ s c v n. getD s (n + 1) 0) 27 tt
+  pub starts-ordered : (n : ℕ) → n < 27 → getD starts n 0 ≤ getD starts (n + 1) 0
+  starts-ordered = compared (λ s c v n. getD s n 0) (λ s c v n. getD s (n + 1) 0) 27 tt
 
   pub row-short : (n : ℕ) → n < 27 → getD starts (n + 1) 0 ≤ getD starts n 0 + 20
   row-short = compared (λ s c v n. getD s (n + 1) 0) (λ s c v n. getD s n 0 + 20) 27 tt

@@ -1,7 +1,7 @@
 // The table in full.
 ghost use Rattle.table.specs.Table.{IsTable};
 
-// 27 rows of 20 entries: eight for the corners' volumes, then twelve for the edges'. A row's number and place stand at its first entry.
+// 27 rows of 20 entries: eight for the corners' volumes, then twelve for the edges'. A row's number and name stand at its first entry.
 pub const TABLE: [i64; 540] = [
     8, // 1: corner 1
     0,
@@ -545,7 +545,7 @@ pub const TABLE: [i64; 540] = [
     1,
 ];
 
-// A copy of the table.
+// A copy of the table: what the constant holds is said here. No other function calls it.
 pub fn copy() -> [i64; 540]
     ensures { λ r. ⌜ IsTable r ⌝ }
 {

@@ -1,5 +1,5 @@
-// The table's rows without their zeros: for each row the list of its non-zero places with their numbers, the 27 lists laid end to end
-// (document 02, No. 3; the form is known as compressed sparse rows).
+// The table's rows without their zeros: for each row the list of its non-zero places with their numbers (document 02, No. 3), the 27 lists
+// laid end to end.
 ghost use Rattle.table.specs.Sparse.{AreSparseRows};
 
 // Row n's list stands from starts[n] up to starts[n + 1]: columns has its places, from 0, and values the numbers at them.
@@ -9,7 +9,7 @@ pub struct SparseRows {
     pub values: [i64; 112],
 }
 
-// Where each row's list starts.
+// Where each row's list starts and, last, where the 27th ends.
 const STARTS: [usize; 28] = [
     0, // 1: corner 1
     1, // 2: corner 2

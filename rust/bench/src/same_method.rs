@@ -45,6 +45,7 @@ const fn on_face(corner: usize, face: usize) -> bool {
 
 /// 27 rows of 20: corners and edges (in quarters) to eight times the
 /// coefficients.
+///
 /// "a corner row holds 8; an edge row 4 and twice -4; a face row four times 2
 /// and four times -6; the centre row twelve times 1 and eight times -5."
 const fn table() -> [i64; 540] {
@@ -97,6 +98,7 @@ const fn table() -> [i64; 540] {
     table
 }
 
+/// The non-zero places of each row of the table, row after row.
 const fn lists(table: [i64; 540]) -> Lists {
     let mut lists = Lists { starts: [0; 28], columns: [0; 112], values: [0; 112] };
     let mut held = 0;

@@ -24,14 +24,14 @@ volumes-requires : tie.Need-volumes-requires
 volumes-requires c κs = search needs
 
 -- what is known after the call of volumes, seen from the call of rows
-abbrev called : tie.After-v → tie.After-volumes
-called c = c .before .before .before .before
+abbrev after-volumes : tie.After-v → tie.After-volumes
+after-volumes c = c .before .before .before .before
 
 rows-requires : tie.Need-rows-requires
-rows-requires c κs = let d = called c in let l = d .before .before .before .before in (l .lists .ensures, subst (InRange volumeLimit) (sym (d .volumes .ensures)) (volumes-small (l .before .pre)))
+rows-requires c κs = let d = after-volumes c in let l = d .before .before .before .before in (l .lists .ensures, subst (InRange volumeLimit) (sym (d .volumes .ensures)) (volumes-small (l .before .pre)))
 
 returns : tie.Need-returns
-returns c = let d = called (c .before) in coefficients-are (d .before .before .before .before .before .args .p .now) (d .volumes .ensures) (c .rows .ensures)
+returns c = let d = after-volumes (c .before) in coefficients-are (d .before .before .before .before .before .args .p .now) (d .volumes .ensures) (c .rows .ensures)
 
 pub coefficients-spec : {M : Type 1} → statement M
 coefficients-spec = tie.close (tie.spec lists-requires volumes-requires rows-requires returns)

@@ -3,7 +3,7 @@ use borrow.Author.Needs.{needs}
 use Prim.Native.Nat.{_+_, _≤_}
 use native.Mathlib.Omega.{arith}
 use lib.ListN.{getD}
-use Rattle.table.specs.SparseRuns.{starts-rise, row-inside}
+use Rattle.table.specs.SparseRuns.{starts-ordered, row-inside}
 use Rattle.control.proofs.Sums.{Summed, none-left, column-inside, product-fits, sum-fits, sum-held, row-summed}
 use Rattle.control.proofs.row.Statement.{statement}
 use Rattle.control.proofs.row.Tie as tie
@@ -34,7 +34,7 @@ element-copy-out-k : tie.Need-element-copy-out-k Inv-loop μ-loop
 element-copy-out-k c = search needs
 
 loop-holds : tie.Need-loop-holds Inv-loop μ-loop
-loop-holds c = let s = c .before .before in (starts-rise (s .pre .0) (s .args .n) (s .pre .1 .0), omega arith, row-inside (s .pre .0) (s .args .n) (s .pre .1 .0), none-left (s .args .columns .now) (s .args .values .now) (s .args .v .now) (getD (s .args .starts .now) (s .args .n + 1) 0))
+loop-holds c = let s = c .before .before in (starts-ordered (s .pre .0) (s .args .n) (s .pre .1 .0), omega arith, row-inside (s .pre .0) (s .args .n) (s .pre .1 .0), none-left (s .args .columns .now) (s .args .values .now) (s .args .v .now) (getD (s .args .starts .now) (s .args .n + 1) 0))
 
 sub-k : tie.Need-sub-k Inv-loop μ-loop
 sub-k c = search needs

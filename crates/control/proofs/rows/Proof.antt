@@ -34,7 +34,7 @@ abbrev entry25 : tie.After-row25 → tie.Start
 entry25 c = entry20 (c .before .before .before .before .before)
 
 row-requires : tie.Need-row-requires
-row-requires c κs = let s = c in (s .pre .0, (lit< tt, s .pre .1))
+row-requires c κs = (c .pre .0, (lit< tt, c .pre .1))
 
 row-requires-2 : tie.Need-row-requires-2
 row-requires-2 c κs = let s = c .before in (s .pre .0, (lit< tt, s .pre .1))
