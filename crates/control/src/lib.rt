@@ -3,12 +3,13 @@
 // An inner crate: the inspector's other crates use it, callers of the inspector do not. It refuses nothing, so whoever calls it has tested
 // the coordinates. It offers `coefficients`.
 ghost use mathlib.Core.Path.{_≡_};
-ghost use Prim.Native.Nat.{_<_};
+ghost use Prim.Native.Nat.{_<_, _≤_};
 ghost use Rattle.foundation.specs.Lists.{tabulate};
 ghost use Rattle.foundation.specs.Polynomial.{integers};
 ghost use Rattle.definitions.specs.Limits.{base};
 ghost use Rattle.definitions.specs.Coefficients.{row, dot, coefficients};
 ghost use Rattle.control.specs.Range.{InRange, volumeLimit};
+ghost use Rattle.control.specs.Rows.{FirstRows};
 ghost use Rattle.table.specs.Sparse.{AreSparseRows};
 
 mod volume;
@@ -36,7 +37,30 @@ fn row(
     sum
 }
 
-// All 27 rows, each by a call with its number written out: so the compiler knows its list and writes out its sum.
+// Rows first up to end against the volumes, each into its place of out; the rows before them stand there.
+fn put_rows(
+    starts: &[usize; 28],
+    columns: &[usize; 112],
+    values: &[i64; 112],
+    first: usize,
+    end: usize,
+    v: &[i64; 20],
+    out: &mut [i64; 27],
+)
+    requires { ⌜ AreSparseRows (now starts) (now columns) (now values) ⌝ ∗ ⌜ (first ≤ end) × (end ≤ 27) ⌝ }
+    requires { ⌜ InRange volumeLimit (now v) ⌝ ∗ ⌜ FirstRows (now v) first (now out) ⌝ }
+    ensures { λ _. ⌜ FirstRows (now (v .entry)) end (now (out .exit)) ⌝ }
+{
+    let mut n = first;
+    while n < end {
+        let sum = row(starts, columns, values, n, v);
+        out[n] = sum;
+        n += 1;
+    }
+}
+
+// All 27 rows: the corners', the edges', the faces' and the centre's. With the ends of each of the four written out, the compiler writes out
+// the rows and, knowing their lists, their sums.
 fn rows(
     starts: &[usize; 28],
     columns: &[usize; 112],
@@ -46,35 +70,12 @@ fn rows(
     requires { ⌜ AreSparseRows (now starts) (now columns) (now values) ⌝ ∗ ⌜ InRange volumeLimit (now v) ⌝ }
     ensures { λ r. ⌜ r ≡ tabulate (λ n. dot integers (row n) (now (v .entry))) 0 27 ⌝ }
 {
-    [
-        row(starts, columns, values, 0, v),
-        row(starts, columns, values, 1, v),
-        row(starts, columns, values, 2, v),
-        row(starts, columns, values, 3, v),
-        row(starts, columns, values, 4, v),
-        row(starts, columns, values, 5, v),
-        row(starts, columns, values, 6, v),
-        row(starts, columns, values, 7, v),
-        row(starts, columns, values, 8, v),
-        row(starts, columns, values, 9, v),
-        row(starts, columns, values, 10, v),
-        row(starts, columns, values, 11, v),
-        row(starts, columns, values, 12, v),
-        row(starts, columns, values, 13, v),
-        row(starts, columns, values, 14, v),
-        row(starts, columns, values, 15, v),
-        row(starts, columns, values, 16, v),
-        row(starts, columns, values, 17, v),
-        row(starts, columns, values, 18, v),
-        row(starts, columns, values, 19, v),
-        row(starts, columns, values, 20, v),
-        row(starts, columns, values, 21, v),
-        row(starts, columns, values, 22, v),
-        row(starts, columns, values, 23, v),
-        row(starts, columns, values, 24, v),
-        row(starts, columns, values, 25, v),
-        row(starts, columns, values, 26, v),
-    ]
+    let mut out = [0i64; 27];
+    put_rows(starts, columns, values, 0, 8, v, &mut out);
+    put_rows(starts, columns, values, 8, 20, v, &mut out);
+    put_rows(starts, columns, values, 20, 26, v, &mut out);
+    put_rows(starts, columns, values, 26, 27, v, &mut out);
+    out
 }
 
 // The 27 coefficients, times 8, in the order of their numbers. The eight points p are in place order, x, y, z of each. All of out is written.

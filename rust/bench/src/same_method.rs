@@ -1,8 +1,8 @@
 //! The product's own method in ordinary Rust: twenty volumes, each row of the
 //! table from the list of its non-zero places, coefficients in the order of their
 //! numbers, one pass of the search for every level, children made by halves, and
-//! those of a half without a low coefficient passed over.  The rows and their
-//! lists are looped over; in the library the numbers of the rows are written out.
+//! those of a half without a low coefficient passed over.  The rows are one loop;
+//! in the library they are four, which the compiler writes out.
 
 use crate::mesh::{
     determinant, difference, invalid, sum, undecided, valid, Answer, Record, CORNERS,
