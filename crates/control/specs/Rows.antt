@@ -1,5 +1,5 @@
 -- The rows against the volumes, laid down one after the other.
-use mathlib.Core.Path.{_≡_, sym, _∙_, ap, subst}
+use mathlib.Core.Path.{_≡_, sym, _∙_, subst}
 use mathlib.Core.List.{List}
 use Prim.Native.Nat.{ℕ, _+_, _<_}
 use native.Mathlib.Decide.{ℕ-discrete}
@@ -7,7 +7,7 @@ use native.Mathlib.Omega.{arith}
 use lib.ListN.{getD, set, length, length-set}
 use lib.Seq.{getD-set-same, getD-set-other, ext-getD}
 use lib.IntN.{ℤ, pos}
-use Rattle.foundation.specs.Lists.{tabulate, length-tabulate, getD-tabulate}
+use Rattle.foundation.specs.Lists.{tabulate, length-tabulate, tabulate-at}
 use Rattle.foundation.specs.Polynomial.{integers}
 use Rattle.definitions.specs.Coefficients.{row, dot}
 
@@ -29,10 +29,7 @@ one-row-more {vs} {out} {n} {x} h l e = record { sized = length-set out n x ∙ 
     before i p k = getD-set-other out n i x (pos 0) p ∙ h .first i k
 
 pub all-rows : {vs out : List ℤ} → FirstRows vs 27 out → out ≡ tabulate (λ n. dot integers (row n) vs) 0 27
-all-rows {vs} {out} h = ext-getD (pos 0) out (tabulate f 0 27) (h .sized ∙ sym (length-tabulate f 0 27)) λ i l. h .first i (omega (arith, h .sized)) ∙ sym (at i (omega (arith, h .sized)))
+all-rows {vs} {out} h = ext-getD (pos 0) out (tabulate f 0 27) (h .sized ∙ sym (length-tabulate f 0 27)) λ i l. h .first i (omega (arith, h .sized)) ∙ sym (tabulate-at f 27 i (pos 0) (omega (arith, h .sized)))
   where
     f : ℕ → ℤ
     f n = dot integers (row n) vs
-
-    at : (i : ℕ) → i < 27 → getD (tabulate f 0 27) i (pos 0) ≡ f i
-    at i l = let z : 0 + i ≡ i = omega arith in getD-tabulate f 0 27 i (pos 0) l ∙ ap f z

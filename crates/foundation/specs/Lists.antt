@@ -115,12 +115,13 @@ getD-tabulate f i zero k d h = absurd (omega arith)
 getD-tabulate f i (suc n) zero d h = ap f (omega arith)
 getD-tabulate f i (suc n) (suc k) d h = let e : suc i + k ≡ i + suc k = omega arith in getD-tabulate f (suc i) n k d (omega arith) ∙ ap f e
 
+-- counted from 0
+pub tabulate-at : {A : Type 0} (f : ℕ → A) (m n : ℕ) (d : A) → n < m → getD (tabulate f 0 m) n d ≡ f n
+tabulate-at f m n d h = let z : 0 + n ≡ n = omega arith in getD-tabulate f 0 m n d h ∙ ap f z
+
 -- two functions that give one list agree at each of its numbers
 pub tabulate-agree : {A : Type 0} (f g : ℕ → A) (m : ℕ) → tabulate f 0 m ≡ tabulate g 0 m → (n : ℕ) → n < m → f n ≡ g n
-tabulate-agree {A} f g m e n h = sym (at f) ∙ ap (λ l. getD l n (f n)) e ∙ at g
-  where
-    at : (k : ℕ → A) → getD (tabulate k 0 m) n (f n) ≡ k n
-    at k = let z : 0 + n ≡ n = omega arith in getD-tabulate k 0 m n (f n) h ∙ ap k z
+tabulate-agree f g m e n h = sym (tabulate-at f m n (f n) h) ∙ ap (λ l. getD l n (f n)) e ∙ tabulate-at g m n (f n) h
 
 module _ {A : Type 0} (P : A → Type 0) (f : ℕ → A) where
   pub all-tabulate : (i n : ℕ) → ((k : ℕ) → i ≤ k → k < i + n → P (f k)) → All P (tabulate f i n)

@@ -6,7 +6,7 @@ use native.Mathlib.Omega.{arith}
 use lib.ListN.{getD, length, take, drop, length-append, length-drop, drop-of-length-le}
 use lib.Seq.{length-take-le, take-at, drop-at, drop-drop}
 use lib.IntN.{ℤ, pos, natAbs}
-use Rattle.foundation.specs.Lists.{All, all-tabulate, concatMap, concatMap-append, append-nil, tabulate, length-tabulate, getD-tabulate}
+use Rattle.foundation.specs.Lists.{All, all-tabulate, concatMap, concatMap-append, append-nil, tabulate, length-tabulate, tabulate-at}
 use Rattle.definitions.specs.Limits.{Limits}
 use Rattle.definitions.specs.Mesh.{elementRecord, records, report, Counts, counted, countsOf}
 use Rattle.verdict.specs.Elements.{element-length, concat-length, total, counts-total}
@@ -124,6 +124,5 @@ unfolding report records
 report-part L coordinates indices D e h =
     let f = recordAt L coordinates indices D in
     let n = length indices / 8 in
-    let p : 0 + e ≡ e = omega arith in
     concat-part (tabulate f 0 n) e (all-tabulate (λ r. length r ≡ 8) f 0 n (λ k _ _. element-length L coordinates (take 8 (drop (8 * k) indices)) D)) (subst (λ (k : ℕ). e < k) (sym (length-tabulate f 0 n)) h)
-    ∙ getD-tabulate f 0 n e [] h ∙ ap f p
+    ∙ tabulate-at f n e [] h

@@ -11,7 +11,7 @@ use borrow.Author.Tests.{not-false, ltb-false, leb-true, leb-false, eqb-true}
 use lib.Dec.{leb, ltb, eqb}
 use lib.ListN.{getD, length}
 use lib.IntN.{ℤ, pos, natAbs}
-use Rattle.foundation.specs.Lists.{getD-all, getD-tabulate}
+use Rattle.foundation.specs.Lists.{getD-all, tabulate-at}
 use Rattle.foundation.specs.Words.{Within, within}
 use Rattle.definitions.specs.Limits.{Limits}
 use Rattle.definitions.specs.Record.{Fault, missing, outside}
@@ -100,10 +100,7 @@ module _ (coordinates : List ℤ) (ix : List ℕ) where
 
   point-at : (k : ℕ) → k < 24 → getD (pointsOf coordinates ix) k (pos 0) ≡ getD coordinates (3 * getD ix (k / 3) 0 + k % 3) (pos 0)
   unfolding pointsOf
-  point-at k h =
-      let f : ℕ → ℤ = λ k. getD coordinates (3 * getD ix (k / 3) 0 + k % 3) (pos 0) in
-      let z : 0 + k ≡ k = omega arith in
-      getD-tabulate f 0 24 k (pos 0) h ∙ ap f z
+  point-at k h = tabulate-at (λ k. getD coordinates (3 * getD ix (k / 3) 0 + k % 3) (pos 0)) 24 k (pos 0) h
 
   pub axis-at : (k t : ℕ) → k < 8 → t < 3 → getD (pointsOf coordinates ix) (3 * k + t) (pos 0) ≡ getD coordinates (3 * getD ix k 0 + t) (pos 0)
   axis-at k t h l = let p : (3 * k + t) / 3 ≡ k = omega arith in let q : (3 * k + t) % 3 ≡ t = omega arith in
