@@ -93,8 +93,15 @@ typedef struct {
 /* The bounds of eight points, x, y, z of each: 24 numbers, which are only read. */
 BrundhalBounds brundhal_bounds(const int32_t points[24], uint32_t depth);
 
-/* The stamp of an inspection's answer: 0 "sound" when no record is invalid or
- * refused, 1 "faulty" otherwise. A refused mesh is faulty. */
+/* The stamp of an inspection's answer:
+ *   0  "sound": at least one element, and every record valid
+ *   1  "faulty": a record is invalid or refused
+ *   2  "open": neither
+ *   3  no stamp: number is not 0, the mesh was refused */
+#define BRUNDHAL_SOUND 0
+#define BRUNDHAL_FAULTY 1
+#define BRUNDHAL_OPEN 2
+#define BRUNDHAL_NO_STAMP 3
 uint32_t brundhal_stamp(BrundhalInspection answer);
 
 /* A cube's address: its level and the grid numbers of its lowest corner. */
@@ -231,7 +238,7 @@ BrundhalName brundhal_name(const uint8_t *label, size_t label_len,
  *   lot LABEL
  *   N NAME w0 w1 w2 w3 w4 w5 w6 w7      an element from 1, its name, its record
  *   tally VALID INVALID UNDECIDED REFUSED
- *   stamp sound                         or faulty
+ *   stamp sound                         or faulty, or open
  * and of a refused one the line
  *   refused NUMBER
  * Every line ends in one line feed; there is no 0 byte at the end. An empty name is

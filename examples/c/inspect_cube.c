@@ -30,6 +30,10 @@ int main(void)
         printf(" %" PRId64, report[word]);
     printf("\nvalid %" PRIu32 " invalid %" PRIu32 " undecided %" PRIu32 " refused %" PRIu32 "\n",
            answer.valid, answer.invalid, answer.undecided, answer.refused);
-    printf("stamp %s\n", brundhal_stamp(answer) == 0 ? "sound" : "faulty");
+    /* An accepted mesh has one of these three. */
+    static const char *const stamps[] = {
+        [BRUNDHAL_SOUND] = "sound", [BRUNDHAL_FAULTY] = "faulty", [BRUNDHAL_OPEN] = "open",
+    };
+    printf("stamp %s\n", stamps[brundhal_stamp(answer)]);
     return 0;
 }

@@ -95,7 +95,11 @@ int main(int argc, char **argv)
     print_elements(&lot);
     printf("valid %" PRIu32 " invalid %" PRIu32 " undecided %" PRIu32 " refused %" PRIu32 "\n",
            answer.valid, answer.invalid, answer.undecided, answer.refused);
-    printf("stamp %s\n", brundhal_stamp(answer) == 0 ? "sound" : "faulty");
+    /* An accepted mesh has one of these three. */
+    static const char *const stamps[] = {
+        [BRUNDHAL_SOUND] = "sound", [BRUNDHAL_FAULTY] = "faulty", [BRUNDHAL_OPEN] = "open",
+    };
+    printf("stamp %s\n", stamps[brundhal_stamp(answer)]);
 
     if (!writes_back(&lot, file_len)) {
         fprintf(stderr, "the lot is not written back\n");

@@ -2,13 +2,14 @@
 use mathlib.Core.Path.{_≡_, refl, ap}
 use mathlib.Core.Bool.{Bool, true, false}
 use mathlib.Core.List.{List, [], _∷_, _++_}
+use mathlib.Core.Option.{Option, none, some}
 use borrow.Author.Tests.{eq-eqb, ne-eqb}
 use Prim.Native.Nat.{ℕ, zero, suc, _≤_}
 use lib.Dec.{eqb}
 use lib.ListN.{length, take, drop}
 use lib.IntN.{ℤ}
 use Rattle.definitions.specs.Address.{Address, Move}
-use Rattle.definitions.specs.Mesh.{Counts, Inspection, accepted, inspectionNumber, inspectionCounts, Stamp, sound, faulty, stampOf, Bounds, boundsNumber, boundsLow, boundsHigh}
+use Rattle.definitions.specs.Mesh.{depthTooGreat, badCoordinates, badIndices, badSpace, Counts, Inspection, accepted, refused, inspectionNumber, inspectionCounts, Stamp, sound, faulty, «open», stampOf, stampGiven, Bounds, boundsNumber, boundsLow, boundsHigh}
 use Rattle.brundhal.specs.declared.BrundhalInspection.{BrundhalInspection}
 use Rattle.brundhal.specs.declared.BrundhalBounds.{BrundhalBounds}
 use Rattle.brundhal.specs.declared.BrundhalAddress.{BrundhalAddress}
@@ -47,19 +48,35 @@ pairOf b = record { number = boundsNumber b; low = boundsLow b; high = boundsHig
 abbrev pub pairHeld : BrundhalBounds → Pair
 pairHeld r = record { number = r .number; low = r .low; high = r .high }
 
--- 0 sound, 1 faulty; an answer with a number other than 0 is that of a refused mesh
+-- 0 sound, 1 faulty, 2 open; an answer with a number other than 0 is that of a refused mesh, which has no stamp: 3
 abbrev pub stampNumber : Stamp → ℕ
 stampNumber sound = 0
 stampNumber faulty = 1
+stampNumber «open» = 2
 
-abbrev pub stampFor : Numbers → Stamp
-stampFor r = elim (eqb (r .number) 0) [ true ↦ stampOf (accepted (r .counts)) | false ↦ faulty ]
+abbrev pub stampTold : Option Stamp → ℕ
+stampTold (some s) = stampNumber s
+stampTold none = 3
 
-pub other-number : (r : Numbers) → (r .number ≡ 0 → ⊥) → stampNumber (stampFor r) ≡ 1
-other-number r h = ap (λ (b : Bool). stampNumber (elim b [ true ↦ stampOf (accepted (r .counts)) | false ↦ faulty ])) (ne-eqb (r .number) 0 h)
+abbrev stampWhen : Counts → Bool → Option Stamp
+stampWhen n b = elim b [ true ↦ some (stampOf n) | false ↦ none ]
 
-pub zero-number : (r : Numbers) → r .number ≡ 0 → stampFor r ≡ stampOf (accepted (r .counts))
-zero-number r h = ap (λ (b : Bool). elim b as (λ _. Stamp) [ true ↦ stampOf (accepted (r .counts)) | false ↦ faulty ]) (eq-eqb (r .number) 0 h)
+abbrev pub stampFor : Numbers → Option Stamp
+stampFor r = stampWhen (r .counts) (eqb (r .number) 0)
+
+pub other-number : (r : Numbers) → (r .number ≡ 0 → ⊥) → stampFor r ≡ none
+other-number r h = ap (stampWhen (r .counts)) (ne-eqb (r .number) 0 h)
+
+pub zero-number : (r : Numbers) → r .number ≡ 0 → stampFor r ≡ some (stampOf (r .counts))
+zero-number r h = ap (stampWhen (r .counts)) (eq-eqb (r .number) 0 h)
+
+-- the stamp of an answer's numbers is that of the answer
+pub same-stamp : (i : Inspection) → stampFor (numbersOf i) ≡ stampGiven i
+same-stamp (accepted n) = refl
+same-stamp (refused depthTooGreat) = refl
+same-stamp (refused badCoordinates) = refl
+same-stamp (refused badIndices) = refl
+same-stamp (refused badSpace) = refl
 
 -- addresses; a move that was made is 1
 abbrev pub addressHeld : BrundhalAddress → Address

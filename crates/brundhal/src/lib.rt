@@ -16,7 +16,7 @@ ghost use Rattle.lotfile.specs.Naming.{nameOf};
 ghost use Rattle.lotfile.specs.Writing.{unwritableNumber, writing, fileOf};
 ghost use Rattle.printed.specs.Slip.{slipOf};
 ghost use Rattle.writer.specs.Meaning.{runs, unwritableHeld, writtenHeld};
-ghost use Rattle.brundhal.specs.Meaning.{ShortAnswer, writtenNumbersHeld, answerNumbers, writingNumbers, nameHeld, nameTold, nameNumbers, labelStart, lotNumbers, lotHeld, numbersOf, numbersHeld, pairOf, pairHeld, stampNumber, stampFor, addressHeld, moveHeld};
+ghost use Rattle.brundhal.specs.Meaning.{ShortAnswer, writtenNumbersHeld, answerNumbers, writingNumbers, nameHeld, nameTold, nameNumbers, labelStart, lotNumbers, lotHeld, numbersOf, numbersHeld, pairOf, pairHeld, stampNumber, stampTold, stampFor, addressHeld, moveHeld};
 use address::Address;
 use address::Moved;
 use inspector::Bounds;
@@ -173,23 +173,25 @@ fn stamp_number(stamp: Stamp) -> u32
     match stamp {
         Stamp::Sound => 0,
         Stamp::Faulty => 1,
+        Stamp::Open => 2,
     }
 }
 
-// The stamp of an inspection's answer, 0 sound or 1 faulty: `inspector::stamp_of`. An answer with another number than 0 is faulty.
+// The stamp of an inspection's answer, 0 sound, 1 faulty or 2 open: `inspector::stamp_of`. An answer with another number than 0 is that of a
+// refused mesh, which has no stamp: 3.
 #[no_mangle]
 pub extern "C" fn brundhal_stamp(answer: BrundhalInspection) -> u32
-    ensures { λ r. ⌜ r ≡ stampNumber (stampFor (numbersHeld answer)) ⌝ }
+    ensures { λ r. ⌜ r ≡ stampTold (stampFor (numbersHeld answer)) ⌝ }
 {
     if answer.number != 0 {
-        return 1;
+        return 3;
     }
-    stamp_number(inspector::stamp_of(Inspection::Accepted(Counts {
+    stamp_number(inspector::stamp_of(Counts {
         valid: answer.valid,
         invalid: answer.invalid,
         undecided: answer.undecided,
         refused: answer.refused,
-    })))
+    }))
 }
 
 fn address(q: BrundhalAddress) -> Address

@@ -2,7 +2,8 @@
 use mathlib.Core.Path.{_≡_, refl}
 use mathlib.Core.List.{List, [], _∷_, _++_}
 use mathlib.Core.Option.{Option, none, some}
-use Prim.Native.Nat.{ℕ}
+use Prim.Native.Nat.{ℕ, suc}
+use lib.ListN.{length}
 use lib.IntN.{ℤ, pos, negsuc}
 use Rattle.foundation.specs.Lists.{All}
 use Rattle.definitions.specs.Limits.{base}
@@ -12,7 +13,7 @@ use Rattle.definitions.specs.Subdivision.{halve, child, children, whole}
 use Rattle.definitions.specs.Verdict.{cornersOf, coefficientsOf, lowPoint, lowCoefficient, lastLevel, validLevel, verdict, openedBelow, opened}
 use Rattle.definitions.specs.Bounds.{low, high}
 use Rattle.definitions.specs.Record.{recordOf}
-use Rattle.definitions.specs.Mesh.{refusal, pointsOf, outOfRange, faultOf, elementRecord, records, report, accepted, refused, badSpace, inspection, reportAfter, sound, faulty, stampOf, Bounds, bounds, boundsOf}
+use Rattle.definitions.specs.Mesh.{refusal, pointsOf, outOfRange, faultOf, elementRecord, records, report, accepted, refused, badSpace, inspection, reportAfter, Stamp, sound, faulty, «open», stampOf, stampGiven, Bounds, bounds, boundsOf}
 
 -- A: the unit cube
 abbrev pub unitCube : List ℤ
@@ -107,11 +108,34 @@ pub mesh-answer : inspection base unitCube twoElements 16 0 ≡ accepted (record
 unfolding jacobian held numbered at coefficients halve child children whole cornersOf coefficientsOf lowPoint lowCoefficient lastLevel validLevel verdict openedBelow opened recordOf pointsOf outOfRange faultOf elementRecord refusal records inspection
 mesh-answer = refl
 
-pub mesh-stamp : stampOf (inspection base unitCube twoElements 16 0) ≡ faulty
-unfolding jacobian held numbered at coefficients halve child children whole cornersOf coefficientsOf lowPoint lowCoefficient lastLevel validLevel verdict openedBelow opened recordOf pointsOf outOfRange faultOf elementRecord refusal records inspection stampOf
-mesh-stamp = refl
-
 -- one word short: refused with 4, the space as it was
 pub short-answer : inspection base unitCube twoElements 15 0 ≡ refused badSpace
 unfolding refusal inspection
 short-answer = refl
+
+-- ---- lots and their stamps at depth 0, as a single list under one claim; with one word of space too many the mesh is refused, and has none
+pub record Lot : Type 0 where
+  pub nodes : List ℤ
+  pub indices : List ℕ
+  pub stamp : Stamp
+
+-- eight nodes in order, the first of them the ninth of its mesh
+abbrev pub nextEight : List ℕ
+nextEight = 8 ∷ 9 ∷ 10 ∷ 11 ∷ 12 ∷ 13 ∷ 14 ∷ 15 ∷ []
+
+abbrev pub stamped : List Lot
+stamped =
+    record { nodes = unitCube; indices = []; stamp = «open» } ∷
+    record { nodes = wideTwist; indices = inOrder; stamp = «open» } ∷
+    record { nodes = wideTwist ++ turned; indices = inOrder ++ nextEight; stamp = faulty } ∷
+    record { nodes = unitCube ++ largest; indices = inOrder ++ nextEight; stamp = sound } ∷
+    record { nodes = unitCube; indices = missingFourth ++ missingFourth; stamp = faulty } ∷
+    record { nodes = unitCube; indices = inOrder ++ missingFourth ++ inOrder; stamp = faulty } ∷
+    record { nodes = unitCube ++ wideTwist; indices = inOrder ++ nextEight; stamp = «open» } ∷ []
+
+abbrev pub Stamped : Lot → Type 0
+Stamped t = (stampGiven (inspection base (t .nodes) (t .indices) (length (t .indices)) 0) ≡ some (t .stamp)) × (stampGiven (inspection base (t .nodes) (t .indices) (suc (length (t .indices))) 0) ≡ none)
+
+pub stamped-hold : All Stamped stamped
+unfolding jacobian held numbered at coefficients halve child children whole cornersOf coefficientsOf lowPoint lowCoefficient lastLevel validLevel verdict openedBelow opened recordOf pointsOf outOfRange faultOf elementRecord refusal records inspection stampOf
+stamped-hold = ((refl, refl), ((refl, refl), ((refl, refl), ((refl, refl), ((refl, refl), ((refl, refl), ((refl, refl), tt)))))))

@@ -1,6 +1,6 @@
 -- Document 01, "When the desk says no": which meshes and elements are refused, the report of an accepted mesh, its counts and stamp, the bounds service.
 use mathlib.Core.Bool.{Bool, true, false, not, _&&_, _||_}
-use mathlib.Core.List.{List, [], _∷_, map}
+use mathlib.Core.List.{List, [], _∷_}
 use mathlib.Core.Option.{Option, none, some}
 use Prim.Native.Nat.{ℕ, zero, suc, _+_, _*_, _/_, _%_}
 use lib.Dec.{eqb, leb, ltb}
@@ -123,14 +123,31 @@ inspection L coordinates indices space D = elim (refusal L (length coordinates) 
 unfoldable pub reportAfter : Limits → List ℤ → List ℕ → List ℤ → ℕ → List ℤ
 reportAfter L coordinates indices space D = elim (refusal L (length coordinates) (length indices) (length space) D) [ some r ↦ space | none ↦ report L coordinates indices D ]
 
--- "The lot's stamp is "sound" when no record is invalid or refused, else "faulty"." A mesh that was refused is faulty: nothing of it was inspected.
+-- 02, No. 4, in the place of 01's sentence: ""sound" needs at least one element and every record valid; "faulty" if any record is invalid or refused; otherwise "open"."
 pub data Stamp : Type 0 where
   sound : Stamp
   faulty : Stamp
+  «open» : Stamp
 
-unfoldable pub stampOf : Inspection → Stamp
-stampOf (accepted n) = elim (eqb (n .invalid + n .refused) 0) [ true ↦ sound | false ↦ faulty ]
-stampOf (refused r) = faulty
+-- by whether there is a record and all are valid, and whether any is invalid or refused
+abbrev pub stampBy : Bool → Bool → Stamp
+stampBy true b = sound
+stampBy false true = faulty
+stampBy false false = «open»
+
+abbrev pub onlyValid : Counts → Bool
+onlyValid n = ltb 0 (n .valid) && eqb (n .invalid) 0 && eqb (n .undecided) 0 && eqb (n .refused) 0
+
+abbrev pub someFaulty : Counts → Bool
+someFaulty n = ltb 0 (n .invalid) || ltb 0 (n .refused)
+
+unfoldable pub stampOf : Counts → Stamp
+stampOf n = stampBy (onlyValid n) (someFaulty n)
+
+-- the stamp of an inspection's answer: a refused mesh has no record and no stamp
+abbrev pub stampGiven : Inspection → Option Stamp
+stampGiven (accepted n) = some (stampOf n)
+stampGiven (refused r) = none
 
 -- "The bounds service … answers 0 with both bounds. It refuses with 1 and then 6 and no other, by number alone, and both bounds are then 0."
 pub data Bounds : Type 0 where

@@ -1,17 +1,16 @@
 -- The answers of the services case by case, as the code's branches reach them.
-use mathlib.Core.Path.{_≡_, refl, sym, _∙_, ap, ap₂}
-use mathlib.Core.Bool.{Bool, true, false, _&&_}
+use mathlib.Core.Path.{_≡_, refl, ap, ap₂}
+use mathlib.Core.Bool.{Bool, true, false}
 use mathlib.Core.List.{List}
 use mathlib.Core.Option.{Option, none, some}
-use Prim.Native.Nat.{ℕ, zero, suc, _+_, _<_, _≤_}
-use native.Mathlib.Omega.{arith}
+use Prim.Native.Nat.{ℕ, _<_, _≤_}
 use borrow.Author.Tests.{lt-ltb, le-ltb}
-use lib.Dec.{ltb, eqb, eqb·suc-zero}
+use lib.Dec.{ltb}
 use lib.ListN.{length}
 use lib.IntN.{ℤ}
 use Rattle.definitions.specs.Limits.{Limits}
 use Rattle.definitions.specs.Bounds.{low, high}
-use Rattle.definitions.specs.Mesh.{Refusal, refusal, records, report, Counts, countsOf, Inspection, accepted, refused, inspection, reportAfter, outOfRange, Bounds, bounds, tooDeep, outOfLimits, boundsOf, Stamp, sound, faulty, stampOf}
+use Rattle.definitions.specs.Mesh.{Refusal, refusal, records, report, Counts, countsOf, Inspection, accepted, refused, inspection, reportAfter, outOfRange, Bounds, bounds, tooDeep, outOfLimits, boundsOf, stampBy, onlyValid, someFaulty, stampOf}
 
 -- ---- an inspection, by what refuses the mesh
 module _ (L : Limits) (coordinates : List ℤ) (indices : List ℕ) (space : List ℤ) (D : ℕ) where
@@ -62,23 +61,7 @@ module _ (L : Limits) (xs : List ℤ) (D : ℕ) where
   pub bounds-inside : D ≤ L .depth → outOfRange L xs ≡ none → boundsOf L xs D ≡ bounds (low xs D) (high xs D)
   bounds-inside h e = bounds-is false none (le-ltb (L .depth) D h) e
 
--- ---- the stamp
-pub none-of-both : (a b : ℕ) → (eqb a 0 && eqb b 0) ≡ eqb (a + b) 0
-none-of-both zero b = let p : b ≡ 0 + b = omega arith in ap (λ (n : ℕ). eqb n 0) p
-none-of-both (suc a) b = let p : suc (a + b) ≡ suc a + b = omega arith in ap (λ (x : Bool). x && eqb b 0) (eqb·suc-zero a) ∙ sym (eqb·suc-zero (a + b)) ∙ ap (λ (n : ℕ). eqb n 0) p
-
-module _ (n : Counts) where
-  abbrev stampBy : Bool → Stamp
-  stampBy b = elim b [ true ↦ sound | false ↦ faulty ]
-
-  pub stamp-sound : eqb (n .invalid + n .refused) 0 ≡ true → sound ≡ stampOf (accepted n)
-  unfolding stampOf
-  stamp-sound e = sym (ap stampBy e)
-
-  pub stamp-faulty : eqb (n .invalid + n .refused) 0 ≡ false → faulty ≡ stampOf (accepted n)
-  unfolding stampOf
-  stamp-faulty e = sym (ap stampBy e)
-
-pub stamp-refused : (r : Refusal) → faulty ≡ stampOf (refused r)
+-- ---- the stamp, by its two tests
+pub stamp-is : (n : Counts) (valid found : Bool) → onlyValid n ≡ valid → someFaulty n ≡ found → stampOf n ≡ stampBy valid found
 unfolding stampOf
-stamp-refused r = refl
+stamp-is n valid found e f = ap₂ stampBy e f

@@ -2,3 +2,4 @@ pub mod Meaning
 pub mod Reports
 pub mod Answers
 pub mod Promise
+pub mod Stamps

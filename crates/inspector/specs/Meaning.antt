@@ -1,12 +1,10 @@
 -- What the inspector's answers stand for: document 01's numbers and values for each case.
-use Prim.Native.Nat.{ℕ}
-use lib.IntN.{ℤ}
-use Rattle.definitions.specs.Mesh.{Refusal, depthTooGreat, badCoordinates, badIndices, badSpace, Inspection, accepted, refused, Stamp, sound, faulty, Bounds, bounds, tooDeep, outOfLimits}
+use Rattle.definitions.specs.Mesh.{depthTooGreat, badCoordinates, badIndices, badSpace, Inspection, accepted, refused, Stamp, sound, faulty, «open», Bounds, bounds, tooDeep, outOfLimits}
 use Rattle.mesh.specs.Meaning.{countsHeld}
 use Rattle.inspector.specs.declared.Inspection.{Inspection as HeldInspection}
 use Rattle.inspector.specs.declared.Inspection.the-variants.{Accepted, DepthTooGreat, BadCoordinates, BadIndices, BadSpace}
 use Rattle.inspector.specs.declared.Stamp.{Stamp as HeldStamp}
-use Rattle.inspector.specs.declared.Stamp.the-variants.{Sound, Faulty}
+use Rattle.inspector.specs.declared.Stamp.the-variants.{Sound, Faulty, Open}
 use Rattle.inspector.specs.declared.Bounds.{Bounds as HeldBounds}
 use Rattle.inspector.specs.declared.Bounds.the-variants.{Both, TooDeep, OutOfRange}
 
@@ -20,6 +18,7 @@ inspectionHeld BadSpace = refused badSpace
 abbrev pub stampHeld : HeldStamp → Stamp
 stampHeld Sound = sound
 stampHeld Faulty = faulty
+stampHeld Open = «open»
 
 abbrev pub boundsHeld : HeldBounds → Bounds
 boundsHeld (Both l h) = bounds l h

@@ -2,11 +2,10 @@
 // whole answer, every word of lent space included, as an equation with the definitions at their limits.
 //   inspect   the records of a mesh's elements, into lent report space, with four counts; or the number that refuses the mesh
 //   bounds_of the low and the high bound of eight points at a depth; or the number that refuses them
-//   stamp_of  the stamp of an inspection's answer
+//   stamp_of  the stamp of an accepted mesh, by its counts
 // The moves of cell addresses are in the crate `address`.
 ghost use mathlib.Core.Path.{_≡_};
-ghost use Prim.Native.Nat.{_+_, _*_, _/_, _%_, _≤_};
-ghost use lib.Dec.{eqb};
+ghost use Prim.Native.Nat.{_*_, _/_, _%_, _≤_};
 ghost use lib.ListN.{length};
 ghost use Rattle.definitions.specs.Limits.{base};
 ghost use Rattle.definitions.specs.Record.{recordOf};
@@ -30,10 +29,11 @@ pub enum Inspection {
     BadSpace,
 }
 
-// The stamp of a mesh.
+// The stamp of an accepted mesh.
 pub enum Stamp {
     Sound,
     Faulty,
+    Open,
 }
 
 // The answer of the bounds service: the low and the high bound, or why the points are refused.
@@ -111,30 +111,17 @@ pub fn inspect(coordinates: &[i32], indices: &[u32], depth: u32, report: &mut [i
     }
 }
 
-// Whether no record is invalid and none refused.
-fn is_sound(n: Counts) -> bool
-    ensures { λ r. ⌜ r ≡ eqb (n .invalid + n .refused) 0 ⌝ }
+// The stamp of an inspection's counts. A refused mesh has none, and no stamp.
+pub fn stamp_of(n: Counts) -> Stamp
+    ensures { λ r. ⌜ stampHeld r ≡ stampOf (countsHeld n) ⌝ }
 {
-    (n.invalid == 0) & (n.refused == 0)
-}
-
-// The stamp of an inspection's answer.
-pub fn stamp_of(answer: Inspection) -> Stamp
-    ensures { λ r. ⌜ stampHeld r ≡ stampOf (inspectionHeld answer) ⌝ }
-{
-    match answer {
-        Inspection::Accepted(n) => {
-            if is_sound(n) {
-                Stamp::Sound
-            } else {
-                Stamp::Faulty
-            }
-        }
-        Inspection::DepthTooGreat => Stamp::Faulty,
-        Inspection::BadCoordinates => Stamp::Faulty,
-        Inspection::BadIndices => Stamp::Faulty,
-        Inspection::BadSpace => Stamp::Faulty,
+    if (0 < n.valid) & (n.invalid == 0) & (n.undecided == 0) & (n.refused == 0) {
+        return Stamp::Sound;
     }
+    if (0 < n.invalid) | (0 < n.refused) {
+        return Stamp::Faulty;
+    }
+    Stamp::Open
 }
 
 // Both bounds of points that are in range.

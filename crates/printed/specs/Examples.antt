@@ -43,6 +43,16 @@ namelessSlip = (108 ∷ 111 ∷ 116 ∷ 32 ∷ 10 ∷ [])
     ++ (116 ∷ 97 ∷ 108 ∷ 108 ∷ 121 ∷ 32 ∷ 49 ∷ 32 ∷ 48 ∷ 32 ∷ 48 ∷ 32 ∷ 49 ∷ 10 ∷ [])
     ++ (115 ∷ 116 ∷ 97 ∷ 109 ∷ 112 ∷ 32 ∷ 102 ∷ 97 ∷ 117 ∷ 108 ∷ 116 ∷ 121 ∷ 10 ∷ [])
 
+-- a lot that has a label and nothing else
+abbrev pub bare : Lot
+bare = record { label = 78 ∷ 79 ∷ 78 ∷ 69 ∷ []; nodes = []; elements = []; groups = [] }
+
+-- "lot NONE", "tally 0 0 0 0", "stamp open"
+abbrev pub bareSlip : List ℕ
+bareSlip = (108 ∷ 111 ∷ 116 ∷ 32 ∷ 78 ∷ 79 ∷ 78 ∷ 69 ∷ 10 ∷ [])
+    ++ (116 ∷ 97 ∷ 108 ∷ 108 ∷ 121 ∷ 32 ∷ 48 ∷ 32 ∷ 48 ∷ 32 ∷ 48 ∷ 32 ∷ 48 ∷ 10 ∷ [])
+    ++ (115 ∷ 116 ∷ 97 ∷ 109 ∷ 112 ∷ 32 ∷ 111 ∷ 112 ∷ 101 ∷ 110 ∷ 10 ∷ [])
+
 -- a number, or the bytes of a file, with what is printed of it
 pub data Example : Type 0 where
   number : ℤ → List ℕ → Example
@@ -59,6 +69,7 @@ examples =
     number (negsuc 9223372036854775807) (45 ∷ 57 ∷ 50 ∷ 50 ∷ 51 ∷ 51 ∷ 55 ∷ 50 ∷ 48 ∷ 51 ∷ 54 ∷ 56 ∷ 53 ∷ 52 ∷ 55 ∷ 55 ∷ 53 ∷ 56 ∷ 48 ∷ 56 ∷ []) ∷
     file (written cube) cubeSlip ∷
     file (written nameless) namelessSlip ∷
+    file (written bare) bareSlip ∷
     file [] (114 ∷ 101 ∷ 102 ∷ 117 ∷ 115 ∷ 101 ∷ 100 ∷ 32 ∷ 50 ∷ 49 ∷ 10 ∷ []) ∷ []
 
 -- The one claim.
@@ -75,6 +86,10 @@ nameless-printed : Printed (file (written nameless) namelessSlip)
 unfolding jacobian held numbered at coefficients halve child children whole cornersOf coefficientsOf lowPoint lowCoefficient lastLevel validLevel verdict openedBelow opened recordOf pointsOf outOfRange faultOf elementRecord refusal records report inspection stampOf signed markOf written bodyOf knownOf entryOf readFrom readLot digits decimal lotSlip slipOf
 nameless-printed = same-slip base 0 3 (omega arith) (omega arith) nameless (λ e. absurd (omega (arith, ap natAbs e)), (λ e. absurd (omega (arith, ap natAbs e)), tt)) lotFile (written nameless) refl ∙ refl
 
+bare-printed : Printed (file (written bare) bareSlip)
+unfolding refusal records report inspection stampOf markOf written bodyOf knownOf entryOf readFrom readLot digits decimal lotSlip slipOf
+bare-printed = refl
+
 pub examples-printed : All Printed examples
 unfolding readLot readFrom entryOf digits decimal slipOf
-examples-printed = (refl, (refl, (refl, (refl, (refl, (refl, (refl, (cube-printed, (nameless-printed, (refl, tt))))))))))
+examples-printed = (refl, (refl, (refl, (refl, (refl, (refl, (refl, (cube-printed, (nameless-printed, (bare-printed, (refl, tt)))))))))))

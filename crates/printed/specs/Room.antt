@@ -9,7 +9,7 @@ use lib.ListN.{length, take, drop, length-append, length-take, length-map, take-
 use lib.IntN.{ℤ}
 use lib.Signed.{mag}
 use Rattle.foundation.specs.Lists.{All, all-left, all-right, all-map, all-image, concatMap}
-use Rattle.definitions.specs.Mesh.{Counts, accepted as inspected, Stamp, sound, faulty, stampOf}
+use Rattle.definitions.specs.Mesh.{Counts, Stamp, sound, faulty, «open», stampOf}
 use Rattle.lotfile.specs.Format.{Group}
 use Rattle.lotfile.specs.Naming.{nameInForce, isEmpty, nameOf}
 use Rattle.printed.specs.Decimal.{decimal, signedDecimal}
@@ -80,6 +80,7 @@ tally-length n h = line-length 10 wordTally (map decimal (n .valid ∷ n .invali
 pub stamp-length : (s : Stamp) → length (line wordStamp (stampWord s ∷ [])) ≤ 13
 stamp-length sound = omega arith
 stamp-length faulty = omega arith
+stamp-length «open» = omega arith
 
 pub refused-length : (n : ℕ) → n < 2 ^ 32 → length (refusedLine n) ≤ 19
 refused-length n h = line-length 10 wordRefused (decimal n ∷ []) (decimal-32 n h, tt)
@@ -98,5 +99,5 @@ module _ (label : List ℕ) (gs : List Group) (n : ℕ) (ws : List ℤ) (counts 
       let first = line-length 32 wordLot (label ∷ []) (h .label-short, tt) in
       let lines = element-lines-length label gs (h .label-short) (h .names-short) 0 n ws (omega (arith, h .elements-few)) (h .words-held) in
       let tally = tally-length counts (h .counts-held) in
-      let stamp = stamp-length (stampOf (inspected counts)) in
+      let stamp = stamp-length (stampOf counts) in
       rw (length-append (line wordLot (label ∷ [])), length-append (elementLines label gs 8 0 n ws), length-append (tallyLine counts)) (omega (arith, h .elements-few))

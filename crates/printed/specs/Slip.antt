@@ -5,7 +5,7 @@ use lib.ListN.{length, take, drop}
 use lib.IntN.{ℤ}
 use Rattle.foundation.specs.Lists.{concatMap}
 use Rattle.definitions.specs.Limits.{Limits}
-use Rattle.definitions.specs.Mesh.{Counts, accepted as inspected, refused as uninspected, inspection, report, Stamp, sound, faulty, stampOf}
+use Rattle.definitions.specs.Mesh.{Counts, accepted as inspected, refused as uninspected, inspection, report, Stamp, sound, faulty, «open», stampOf}
 use Rattle.definitions.specs.Mesh.{refusalNumber as meshNumber}
 use Rattle.lotfile.specs.Format.{FileLimits, Lot, Group}
 use Rattle.lotfile.specs.Reading.{refusalNumber, accepted, refused, readLot}
@@ -16,7 +16,7 @@ use Rattle.printed.specs.Decimal.{decimal, signedDecimal}
 abbrev pub line : List ℕ → List (List ℕ) → List ℕ
 line first rest = first ++ (concatMap (λ (w : List ℕ). 32 ∷ w) rest ++ (10 ∷ []))
 
--- "lot", "tally", "stamp", "sound", "faulty", "refused"
+-- "lot", "tally", "stamp", "refused", and 02, No. 4: "sound", "faulty", "open"
 abbrev pub wordLot : List ℕ
 wordLot = 108 ∷ 111 ∷ 116 ∷ []
 
@@ -32,6 +32,7 @@ wordRefused = 114 ∷ 101 ∷ 102 ∷ 117 ∷ 115 ∷ 101 ∷ 100 ∷ []
 abbrev pub stampWord : Stamp → List ℕ
 stampWord sound = 115 ∷ 111 ∷ 117 ∷ 110 ∷ 100 ∷ []
 stampWord faulty = 102 ∷ 97 ∷ 117 ∷ 108 ∷ 116 ∷ 121 ∷ []
+stampWord «open» = 111 ∷ 112 ∷ 101 ∷ 110 ∷ []
 
 -- "Elements count from 1; an empty name prints as nothing, its spaces kept."
 abbrev pub elementLine : List ℕ → List Group → ℕ → List ℤ → List ℕ
@@ -54,7 +55,7 @@ abbrev pub inspectedSlip : List ℕ → List Group → ℕ → ℕ → List ℤ 
 inspectedSlip label gs w n words counts =
     line wordLot (label ∷ [])
     ++ (elementLines label gs w 0 n words
-    ++ (tallyLine counts ++ line wordStamp (stampWord (stampOf (inspected counts)) ∷ [])))
+    ++ (tallyLine counts ++ line wordStamp (stampWord (stampOf counts) ∷ [])))
 
 -- the slip of a lot that was read without fault; its mesh is inspected with report space of just the right length
 unfoldable pub lotSlip : Limits → ℕ → Lot → List ℕ

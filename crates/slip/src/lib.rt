@@ -64,6 +64,7 @@ fn stamp_word(out: &mut [u8], at: usize, stamp: Stamp) -> usize
     match stamp {
         Stamp::Sound => lines::word(out, at, b"sound"),
         Stamp::Faulty => lines::word(out, at, b"faulty"),
+        Stamp::Open => lines::word(out, at, b"open"),
     }
 }
 
@@ -92,7 +93,7 @@ fn inspected_slip<'a>(
     requires { ⌜ at + length (inspectedSlip (now label) (groupsOf (now names) (now lengths) (now befores)) 8 (length (now report) / 8) (now report) (countsHeld counts)) ≤ length (now out) ⌝ }
     ensures { λ r. ⌜ Laid at (inspectedSlip (now (label .entry)) (groupsOf (now (names .entry)) (now (lengths .entry)) (now (befores .entry))) 8 (length (now (report .entry)) / 8) (now (report .entry)) (countsHeld counts)) (now (out .entry)) (now (out .exit)) r ⌝ }
 {
-    let stamp = inspector::stamp_of(Inspection::Accepted(counts));
+    let stamp = inspector::stamp_of(counts);
     let behind_label = lines::lot_line(out, at, label);
     let behind_elements = element_lines(out, behind_label, label, names, lengths, befores, report);
     let behind_tally = tally_line(out, behind_elements, counts);

@@ -43,7 +43,11 @@ fn print_slip(file: &[u8], out: &mut impl Write) -> io::Result<()> {
         print_element(out, element + 1, name, record)?;
     }
     let [_, valid, invalid, undecided, refused] = answer;
-    let stamp = if invalid == 0 && refused == 0 { "sound" } else { "faulty" };
+    let stamp = match (valid, invalid + refused, undecided) {
+        (1.., 0, 0) => "sound",
+        (_, 0, _) => "open",
+        _ => "faulty",
+    };
     writeln!(out, "tally {valid} {invalid} {undecided} {refused}\nstamp {stamp}")
 }
 

@@ -24,8 +24,7 @@ fn main() {
         "valid {} invalid {} undecided {} refused {}",
         answer.valid, answer.invalid, answer.undecided, answer.refused
     );
-    match brundhal::stamp(answer) {
-        brundhal::Stamp::Sound => println!("stamp sound"),
-        brundhal::Stamp::Faulty => println!("stamp faulty"),
+    if let Some(stamp) = brundhal::stamp(answer) {
+        println!("stamp {stamp}");
     }
 }

@@ -4,7 +4,7 @@
 
 #![deny(warnings)]
 
-use brundhal::{GroupSpace, Groups, Inspection, Stamp};
+use brundhal::{GroupSpace, Groups, Inspection};
 use std::process::ExitCode;
 
 /// Each element's name, a part of the lot's names or its label, and its verdict.
@@ -24,9 +24,8 @@ fn print_elements(label: &[u8], groups: Groups, report: &[i64]) {
 fn print_counts(answer: Inspection) {
     let Inspection { valid, invalid, undecided, refused, .. } = answer;
     println!("valid {valid} invalid {invalid} undecided {undecided} refused {refused}");
-    match brundhal::stamp(answer) {
-        Stamp::Sound => println!("stamp sound"),
-        Stamp::Faulty => println!("stamp faulty"),
+    if let Some(stamp) = brundhal::stamp(answer) {
+        println!("stamp {stamp}");
     }
 }
 

@@ -11,6 +11,8 @@
 #![deny(warnings)]
 #![deny(unsafe_op_in_unsafe_fn)]
 
+use std::fmt;
+
 #[cfg(test)]
 mod tests;
 
@@ -77,11 +79,23 @@ pub enum Moved {
     Not(Address),
 }
 
-/// The stamp of a lot.
+/// The stamp of a lot.  02: ""sound" needs at least one element and every record
+/// valid; "faulty" if any record is invalid or refused; otherwise "open"."
 #[derive(Clone, Copy, Debug, PartialEq, Eq)]
 pub enum Stamp {
     Sound,
     Faulty,
+    Open,
+}
+
+impl fmt::Display for Stamp {
+    fn fmt(&self, f: &mut fmt::Formatter) -> fmt::Result {
+        f.write_str(match self {
+            Stamp::Sound => "sound",
+            Stamp::Faulty => "faulty",
+            Stamp::Open => "open",
+        })
+    }
 }
 
 /// The groups of a lot.  01: "names laid end to end, with each one's length and
@@ -265,14 +279,15 @@ pub fn bounds(points: &[i32; 24], depth: u32) -> Bounds {
     unsafe { raw::brundhal_bounds(points.as_ptr(), depth) }
 }
 
-/// 01: "The lot's stamp is "sound" when no record is invalid or refused, else
-/// "faulty"."
-pub fn stamp(answer: Inspection) -> Stamp {
+/// The stamp of an inspection's answer; a refused mesh has none.
+pub fn stamp(answer: Inspection) -> Option<Stamp> {
     // Numbers in, a number out.
     match unsafe { raw::brundhal_stamp(answer) } {
-        0 => Stamp::Sound,
-        1 => Stamp::Faulty,
-        other => unreachable!("the library's stamp is 0 or 1, not {other}"),
+        0 => Some(Stamp::Sound),
+        1 => Some(Stamp::Faulty),
+        2 => Some(Stamp::Open),
+        3 => None,
+        other => unreachable!("the library's stamp is 0 to 3, not {other}"),
     }
 }
 

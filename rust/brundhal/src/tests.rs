@@ -53,11 +53,58 @@ fn bounds_of_one_point() {
 
 #[test]
 fn stamps() {
-    assert_eq!(stamp(Inspection::default()), Stamp::Sound);
-    assert_eq!(stamp(Inspection { undecided: 1, ..Inspection::default() }), Stamp::Sound);
-    assert_eq!(stamp(Inspection { invalid: 1, ..Inspection::default() }), Stamp::Faulty);
-    assert_eq!(stamp(Inspection { refused: 1, ..Inspection::default() }), Stamp::Faulty);
-    assert_eq!(stamp(Inspection { number: 4, ..Inspection::default() }), Stamp::Faulty);
+    let none = Inspection::default();
+    assert_eq!(stamp(none), Some(Stamp::Open));
+    assert_eq!(stamp(Inspection { valid: 1, ..none }), Some(Stamp::Sound));
+    assert_eq!(stamp(Inspection { invalid: 1, ..none }), Some(Stamp::Faulty));
+    assert_eq!(stamp(Inspection { undecided: 1, ..none }), Some(Stamp::Open));
+    assert_eq!(stamp(Inspection { refused: 1, ..none }), Some(Stamp::Faulty));
+    for number in [1, 2, 3, 4, u32::MAX] {
+        assert_eq!(stamp(Inspection { number, ..none }), None);
+        assert_eq!(stamp(Inspection { number, valid: 1, ..none }), None);
+    }
+}
+
+/// The nodes of a box, and those of its top turned by a half and twice as wide.
+#[rustfmt::skip]
+const NODES: [i32; 36] = [
+    -1, -1, 0,  1, -1, 0,  1, 1, 0,  -1, 1, 0,
+    -1, -1, 1,  1, -1, 1,  1, 1, 1,  -1, 1, 1,
+    2, 2, 1,  -2, 2, 1,  -2, -2, 1,  2, -2, 1,
+];
+
+const VALID: [u32; 8] = [0, 1, 2, 3, 4, 5, 6, 7];
+const INVALID: [u32; 8] = [4, 5, 6, 7, 0, 1, 2, 3];
+const UNDECIDED: [u32; 8] = [0, 1, 2, 3, 8, 9, 10, 11];
+const REFUSED: [u32; 8] = [0, 1, 2, 3, 4, 5, 6, 12];
+
+/// Lots with no element, one undecided, one undecided and one invalid, all valid, all
+/// refused, and one refused among valid ones: their stamps at every depth, and on the
+/// slip.
+#[test]
+fn stamps_of_lots() {
+    let lots: [(&[[u32; 8]], Stamp); 6] = [
+        (&[], Stamp::Open),
+        (&[UNDECIDED], Stamp::Open),
+        (&[UNDECIDED, INVALID], Stamp::Faulty),
+        (&[VALID, VALID], Stamp::Sound),
+        (&[REFUSED, REFUSED], Stamp::Faulty),
+        (&[VALID, REFUSED, VALID], Stamp::Faulty),
+    ];
+    let mut out = Box::new([0; SLIP_BYTES]);
+    for (elements, expected) in lots {
+        let indices = elements.concat();
+        let mut report = vec![0; indices.len()];
+        for depth in 0..=3 {
+            let answer = inspect(&NODES, &indices, depth, &mut report);
+            assert_eq!(stamp(answer), Some(expected));
+        }
+        assert_eq!(stamp(inspect(&NODES, &indices, 4, &mut report)), None);
+        let mut file = vec![0; LOT_BYTES];
+        let written = write_lot(b"", &NODES, &indices, Groups::default(), &mut file);
+        let length = slip(&file[..written.len as usize], &mut out);
+        assert!(out[..length].ends_with(format!("\nstamp {expected}\n").as_bytes()));
+    }
 }
 
 /// A lot of nothing but its label's record and the end.
@@ -203,7 +250,7 @@ fn names_that_are_cut() {
 fn slips() {
     let mut out = Box::new([7; SLIP_BYTES]);
     for (file, text) in [
-        (&b"LB\x01\0xGR\0\0EN\0\0"[..], &b"lot x\ntally 0 0 0 0\nstamp sound\n"[..]),
+        (&b"LB\x01\0xGR\0\0EN\0\0"[..], &b"lot x\ntally 0 0 0 0\nstamp open\n"[..]),
         (b"", b"refused 21\n"),
     ] {
         out.fill(7);

@@ -1,7 +1,7 @@
 //! One question to both programs: their answers word by word, what 01 says over
 //! depths, and what 02 says of writing and reading.
 
-use crate::program::{Answer, AtDepth, Inspects, Program};
+use crate::program::{stamped, Answer, AtDepth, Inspects, Program, Stamp};
 use crate::question::Question;
 use lent::{Fenced, FENCE};
 use second::specimens::Shaker;
@@ -44,7 +44,7 @@ struct Words {
 /// An inspection's answer, its stamp, and the report space with its fences.
 struct Inspected {
     answer: Answer,
-    stamp: u32,
+    stamp: Option<Stamp>,
     space: Fenced<i64>,
 }
 
@@ -62,7 +62,7 @@ fn inspected(
 
 fn inspected_words(seen: &Inspected) -> Words {
     let mut words: Vec<i64> = seen.answer.iter().copied().map(i64::from).collect();
-    words.push(i64::from(seen.stamp));
+    words.push(stamp_word(seen.stamp));
     words.extend(seen.space.whole());
     Words { words, name: Box::new(inspected_name) }
 }
@@ -118,8 +118,20 @@ fn move_words(answer: [u32; 5]) -> Words {
     }
 }
 
-fn stamp_words(stamp: u32) -> Words {
-    Words { words: vec![i64::from(stamp)], name: Box::new(|_| "stamp".to_string()) }
+/// A stamp as a word: its place in `STAMPS`.
+fn stamp_word(stamp: Option<Stamp>) -> i64 {
+    match stamp {
+        Some(Stamp::Sound) => 0,
+        Some(Stamp::Faulty) => 1,
+        Some(Stamp::Open) => 2,
+        None => 3,
+    }
+}
+
+pub const STAMPS: [&str; 4] = ["sound", "faulty", "open", "no stamp"];
+
+fn stamp_words(stamp: Option<Stamp>) -> Words {
+    Words { words: vec![stamp_word(stamp)], name: Box::new(|_| "stamp".to_string()) }
 }
 
 /// The first word that differs, if any.
@@ -203,8 +215,15 @@ fn over_depths_fault(points: Option<&[i32; 24]>, seen: &[AtDepth]) -> Option<Str
         .or_else(|| not_positive(points.filter(|_| valid)?))
 }
 
-/// Demand 3 for every element of an accepted mesh: its records in the reports
-/// of all depths, and the bounds of its points.
+/// 02, No. 4: the stamp of an accepted mesh is the one that its records give.
+fn stamp_and_report(mesh: &Inspected) -> Option<String> {
+    let by_records = stamped(second::stamp_of_report(mesh.space.inner()));
+    let apart = mesh.stamp != Some(by_records);
+    apart.then(|| format!("stamp {:?}, and the records give {by_records:?}", mesh.stamp))
+}
+
+/// The stamps of an accepted mesh at all depths, and demand 3 for its elements: their
+/// records in the reports of all depths, and the bounds of their points.
 fn mesh_over_depths_fault(
     program: &dyn Inspects,
     coordinates: &[i32],
@@ -212,6 +231,17 @@ fn mesh_over_depths_fault(
 ) -> Option<String> {
     let at = |depth| inspected(program, coordinates, indices, depth, indices.len());
     let meshes: Vec<Inspected> = (0..=LARGEST_DEPTH).map(at).collect();
+    let stamps = meshes.iter().find_map(stamp_and_report);
+    stamps.or_else(|| elements_over_depths_fault(program, coordinates, indices, &meshes))
+}
+
+/// Demand 3 for every element of an accepted mesh, seen at every depth.
+fn elements_over_depths_fault(
+    program: &dyn Inspects,
+    coordinates: &[i32],
+    indices: &[u32],
+    meshes: &[Inspected],
+) -> Option<String> {
     indices.chunks_exact(8).enumerate().find_map(|(number, element)| {
         let points = second::points_of(coordinates, element);
         let at_depth = |(depth, mesh): (u32, &Inspected)| AtDepth {
@@ -220,7 +250,7 @@ fn mesh_over_depths_fault(
             // an index that names no node is refusal 5
             bounds: points.map_or((5, 0, 0), |points| program.bounds(&points, depth)),
         };
-        let seen: Vec<AtDepth> = (0..).zip(&meshes).map(at_depth).collect();
+        let seen: Vec<AtDepth> = (0..).zip(meshes).map(at_depth).collect();
         let what = over_depths_fault(points.as_ref(), &seen)?;
         Some(format!("element {number} from 0: {what}"))
     })

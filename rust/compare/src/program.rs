@@ -38,6 +38,9 @@ pub struct Lent<'a> {
 /// part of the file that was handed in.
 pub type ReadLot<'a> = brundhal::Lot<'a>;
 
+/// The stamp of an accepted mesh.
+pub type Stamp = brundhal::Stamp;
+
 /// What is said of a lot that is written: 0 or the number of the refusal, and the
 /// file's length.
 pub type Written = brundhal::Written;
@@ -69,7 +72,7 @@ pub trait Inspects: Sync {
         report: &mut [i64],
     ) -> Answer;
     fn bounds(&self, points: &[i32; 24], depth: u32) -> (u32, i64, i64);
-    fn stamp(&self, answer: Answer) -> u32;
+    fn stamp(&self, answer: Answer) -> Option<Stamp>;
     fn child(&self, address: Address, n: u32) -> Move;
     fn corner(&self, address: Address, n: u32) -> Move;
     fn parent(&self, address: Address) -> Move;
@@ -155,13 +158,10 @@ impl Inspects for Product {
         (answer.number, answer.low, answer.high)
     }
 
-    fn stamp(&self, answer: Answer) -> u32 {
+    fn stamp(&self, answer: Answer) -> Option<Stamp> {
         let [number, valid, invalid, undecided, refused] = answer;
         let answer = brundhal::Inspection { number, valid, invalid, undecided, refused };
-        match brundhal::stamp(answer) {
-            brundhal::Stamp::Sound => 0,
-            brundhal::Stamp::Faulty => 1,
-        }
+        brundhal::stamp(answer)
     }
 
     fn child(&self, address: Address, n: u32) -> Move {
@@ -216,6 +216,15 @@ fn said((to, made): (second::Address, bool)) -> Move {
     [u32::from(made), to.level, to.a, to.b, to.c]
 }
 
+/// The second program's stamp, by the first one's name.
+pub fn stamped(stamp: second::Stamp) -> Stamp {
+    match stamp {
+        second::Stamp::Sound => Stamp::Sound,
+        second::Stamp::Faulty => Stamp::Faulty,
+        second::Stamp::Open => Stamp::Open,
+    }
+}
+
 fn cube([level, a, b, c]: Address) -> second::Address {
     second::Address { level, a, b, c }
 }
@@ -264,13 +273,10 @@ impl Inspects for Second {
         (answer.number, answer.low, answer.high)
     }
 
-    fn stamp(&self, answer: Answer) -> u32 {
+    fn stamp(&self, answer: Answer) -> Option<Stamp> {
         let [number, valid, invalid, undecided, refused] = answer;
         let answer = second::Inspection { number, valid, invalid, undecided, refused };
-        match second::stamp(&answer) {
-            second::Stamp::Sound => 0,
-            second::Stamp::Faulty => 1,
-        }
+        second::stamp(&answer).map(stamped)
     }
 
     fn child(&self, address: Address, n: u32) -> Move {

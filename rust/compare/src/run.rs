@@ -1,7 +1,7 @@
 //! The whole side-by-side run.
 
 use crate::cases::{cases, figures, not_as_printed, rounded};
-use crate::check::{ask, last_record, Difference, POINTS_A_LEVEL};
+use crate::check::{ask, last_record, Difference, POINTS_A_LEVEL, STAMPS};
 use crate::draw::{self, Kind, KINDS};
 use crate::lots::{numbered, Service, NAMING, PRINTING, READING, WRITING};
 use crate::program::{Program, IN_ORDER};
@@ -249,8 +249,8 @@ fn count_move(tally: &mut Tally, words: &[i64]) {
 }
 
 /// Stamps of answers that an inspection can give, 1 to 4 with counts 0 and 0
-/// with any counts; and of any five numbers, where 01 is silent and both
-/// programs say "faulty" of a number that is not 0.
+/// with any counts; and of any five numbers, where 02 is silent and both
+/// programs give no stamp to a number that is not 0.
 fn stamps(pair: Pair, plan: Plan) -> Result<String, Difference> {
     let mut shaker = shaker_for(plan.seed, 3, 0);
     let mut tally = Tally::new();
@@ -266,7 +266,7 @@ fn stamps(pair: Pair, plan: Plan) -> Result<String, Difference> {
             _ => {}
         }
         let words = pair.ask(&Question::Stamp { answer })?;
-        count(&mut tally, (if words[0] == 0 { "sound" } else { "faulty" }).to_string());
+        count(&mut tally, STAMPS[words[0] as usize].to_string());
     }
     Ok(format!("{}, beside that of every mesh", in_words(&tally)))
 }

@@ -7,7 +7,7 @@ use compare::cases::cases;
 use compare::check::{ask, Difference};
 use compare::lots::Service;
 use compare::program::{
-    Address, Answer, Inspects, Move, Product, Program, Second, PRODUCT, SECOND,
+    Address, Answer, Inspects, Move, Product, Program, Second, Stamp, PRODUCT, SECOND,
 };
 use compare::question::Question;
 use compare::run::{run, run_service, Pair, Plan};
@@ -69,7 +69,11 @@ faults! {
     MovesNoCube,
     // stamps
     UndecidedIsFaulty,
+    UndecidedIsSound,
+    NoElementsAreSound,
+    RefusedIsOpen,
     RefusedMeshIsSound,
+    RefusedMeshIsFaulty,
     // the sham versions of 01
     RefusesAll,
     SaysValid,
@@ -200,10 +204,15 @@ impl Inspects for Wrong {
         (number, low, high)
     }
 
-    fn stamp(&self, answer: Answer) -> u32 {
-        match self.0 {
-            Fault::UndecidedIsFaulty if answer[3] > 0 => 1,
-            Fault::RefusedMeshIsSound if answer[0] > 0 => 0,
+    fn stamp(&self, answer: Answer) -> Option<Stamp> {
+        let [number, valid, invalid, undecided, refused] = answer;
+        match (self.0, (number, valid, invalid, undecided, refused)) {
+            (Fault::UndecidedIsFaulty, (0, _, _, 1.., _)) => Some(Stamp::Faulty),
+            (Fault::UndecidedIsSound, (0, _, 0, 1.., 0)) => Some(Stamp::Sound),
+            (Fault::NoElementsAreSound, (0, 0, 0, 0, 0)) => Some(Stamp::Sound),
+            (Fault::RefusedIsOpen, (0, _, 0, _, 1..)) => Some(Stamp::Open),
+            (Fault::RefusedMeshIsSound, (1.., ..)) => Some(Stamp::Sound),
+            (Fault::RefusedMeshIsFaulty, (1.., ..)) => Some(Stamp::Faulty),
             _ => Second.stamp(answer),
         }
     }
@@ -330,6 +339,7 @@ enum Unsteady {
     RecordApartFromBounds,
     NotPositive,
     OpenedInvented,
+    StampOf01,
 }
 
 /// The library with one such fault.
@@ -372,8 +382,11 @@ impl Inspects for Unsteady {
         }
     }
 
-    fn stamp(&self, answer: Answer) -> u32 {
-        Product.stamp(answer)
+    fn stamp(&self, answer: Answer) -> Option<Stamp> {
+        match (self, answer) {
+            (Unsteady::StampOf01, [0, _, 0, _, 0]) => Some(Stamp::Sound),
+            _ => Product.stamp(answer),
+        }
     }
 
     fn child(&self, address: Address, n: u32) -> Move {
@@ -449,6 +462,23 @@ fn what_01_prints_is_tested() {
     let found = run(pair, small_plan(), &drop).expect_err("not as printed");
     assert!(found.what.contains("in 01"));
     finds_it_again(pair, &found);
+}
+
+/// So is a stamp that is not the one that the records give: 01's, which calls a mesh
+/// sound whose records are valid or undecided.
+#[test]
+fn the_stamp_of_the_records_is_tested() {
+    let pair = unsteady(&Unsteady::StampOf01);
+    let coordinates = ["A", "F"].map(points_of).concat();
+    let indices: Vec<u32> = (0..16).collect();
+    for indices in [indices, vec![]] {
+        let coordinates = coordinates.clone();
+        let question = Question::Inspect { depth: 3, space: indices.len(), coordinates, indices };
+        assert!(ask(PRODUCT, SECOND, &question).is_ok());
+        let found = pair.ask_again(&question).expect_err("a stamp apart from the records");
+        assert_eq!(found.what, "stamp Some(Sound), and the records give Open");
+        finds_it_again(pair, &found);
+    }
 }
 
 /// The printed form of every question reads back, and the library answers it.

@@ -714,15 +714,32 @@ pub fn inspect(
 pub enum Stamp {
     Sound,
     Faulty,
+    Open,
 }
 
-/// 01: "The lot's stamp is "sound" when no record is invalid or refused, else
-/// "faulty"."  A refused mesh has no records; it is faulty by decision.
-pub fn stamp(inspection: &Inspection) -> Stamp {
-    if inspection.number == 0 && inspection.invalid == 0 && inspection.refused == 0 {
-        Stamp::Sound
-    } else {
+/// 02, No. 4: ""sound" needs at least one element and every record valid; "faulty"
+/// if any record is invalid or refused; otherwise "open"."  A refused mesh has no
+/// records, and no stamp.
+pub fn stamp(inspection: &Inspection) -> Option<Stamp> {
+    let Inspection { number, valid, invalid, undecided, refused } = *inspection;
+    match (number, valid, invalid, undecided, refused) {
+        (1.., ..) => None,
+        (0, 1.., 0, 0, 0) => Some(Stamp::Sound),
+        (0, _, 0, _, 0) => Some(Stamp::Open),
+        _ => Some(Stamp::Faulty),
+    }
+}
+
+/// The same, read off the report of an accepted mesh: eight words an element, of
+/// which the first is 0 in a valid record and 2 in an undecided one.
+pub fn stamp_of_report(report: &[i64]) -> Stamp {
+    let mut kinds = report.iter().step_by(8);
+    if kinds.clone().any(|&kind| kind != 0 && kind != 2) {
         Stamp::Faulty
+    } else if report.is_empty() || kinds.any(|&kind| kind != 0) {
+        Stamp::Open
+    } else {
+        Stamp::Sound
     }
 }
 

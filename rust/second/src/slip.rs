@@ -33,8 +33,10 @@ fn element_line(lot: &Lot, element: u32, record: &[i64]) -> Vec<u8> {
 fn closing_lines(answer: &Inspection) -> [Vec<u8>; 2] {
     let Inspection { valid, invalid, undecided, refused, .. } = *answer;
     let stamp: &[u8] = match stamp(answer) {
-        Stamp::Sound => b"sound",
-        Stamp::Faulty => b"faulty",
+        Some(Stamp::Sound) => b"sound",
+        Some(Stamp::Faulty) => b"faulty",
+        Some(Stamp::Open) => b"open",
+        None => unreachable!("a lot that is read is never refused as a mesh"),
     };
     let tally = line_of_numbers(&[b"tally"], &[valid, invalid, undecided, refused]);
     [tally, line(&[b"stamp", stamp])]

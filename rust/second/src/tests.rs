@@ -499,7 +499,7 @@ fn no_elements() {
     for coordinates in [&[][..], &[1, 2, i32::MAX][..]] {
         let answer = inspect(&Limits::base(), coordinates, &[], 3, &mut []);
         assert_eq!(answer, counts(0, 0, 0, 0));
-        assert_eq!(stamp(&answer), Stamp::Sound);
+        assert_eq!(stamp(&answer), Some(Stamp::Open));
     }
 }
 
@@ -581,20 +581,35 @@ fn no_word_is_left_from_before() {
         let answer = inspect(&limits, &coordinates, &indices, depth, &mut report);
         assert_eq!(report, expected);
         assert_eq!(answer, counts(tally[0], tally[1], tally[2], tally[5] + tally[6]));
-        let faulty = tally[1] + tally[5] + tally[6] > 0;
-        assert_eq!(stamp(&answer) == Stamp::Faulty, faulty);
+        assert_eq!(stamp(&answer), Some(stamp_of_report(&report)));
     }
 }
 
-/// "sound" with valid and undecided records only.
+/// The stamp by the counts, and by records with these counts.
+#[track_caller]
+fn expect_stamp(answer: Inspection, expected: Stamp) {
+    assert_eq!(stamp(&answer), Some(expected));
+    let Inspection { valid, invalid, undecided, refused, .. } = answer;
+    let kinds = [(0, valid), (1, invalid), (2, undecided), (6, refused)];
+    let records = kinds.map(|(kind, count)| [kind, 0, 0, 0, 0, 0, 0, 1].repeat(count as usize));
+    assert_eq!(stamp_of_report(&records.concat()), expected);
+}
+
+/// "sound" with one valid record and no other, "open" with none or with undecided
+/// ones too.
 #[test]
 fn stamps() {
-    assert_eq!(stamp(&counts(3, 0, 0, 0)), Stamp::Sound);
-    assert_eq!(stamp(&counts(3, 0, 2, 0)), Stamp::Sound);
-    assert_eq!(stamp(&counts(3, 1, 2, 0)), Stamp::Faulty);
-    assert_eq!(stamp(&counts(3, 0, 2, 1)), Stamp::Faulty);
+    expect_stamp(counts(0, 0, 0, 0), Stamp::Open);
+    expect_stamp(counts(0, 0, 1, 0), Stamp::Open);
+    expect_stamp(counts(0, 1, 1, 0), Stamp::Faulty);
+    expect_stamp(counts(3, 0, 0, 0), Stamp::Sound);
+    expect_stamp(counts(0, 0, 0, 3), Stamp::Faulty);
+    expect_stamp(counts(3, 0, 0, 1), Stamp::Faulty);
+    expect_stamp(counts(3, 0, 2, 0), Stamp::Open);
+    expect_stamp(counts(3, 1, 0, 0), Stamp::Faulty);
+    expect_stamp(counts(0, 0, 2, 1), Stamp::Faulty);
     for number in 1..=4 {
-        assert_eq!(stamp(&refusal(number)), Stamp::Faulty);
+        assert_eq!(stamp(&refusal(number)), None);
     }
 }
 

@@ -4,7 +4,7 @@ use mathlib.Core.List.{List, [], _∷_, _++_}
 use Prim.Native.Nat.{ℕ, _/_}
 use borrow.Author.Needs.{needs}
 use lib.ListN.{length}
-use Rattle.definitions.specs.Mesh.{Stamp, accepted, stampOf}
+use Rattle.definitions.specs.Mesh.{Stamp, stampOf}
 use Rattle.lotfile.specs.Format.{Group}
 use Rattle.lotfile.specs.Runs.{groupsOf}
 use Rattle.printed.specs.Slip.{line, wordLot, wordStamp, stampWord, elementLines, tallyLine}
@@ -28,7 +28,7 @@ abbrev tally : tie.Start → List ℕ
 tally s = tallyLine (countsHeld (s .args .counts))
 
 abbrev stamp : tie.Start → List ℕ
-stamp s = line wordStamp (stampWord (stampOf (accepted (countsHeld (s .args .counts)))) ∷ [])
+stamp s = line wordStamp (stampWord (stampOf (countsHeld (s .args .counts))) ∷ [])
 
 -- what is left of it at a place
 abbrev Left : tie.Start → List ℕ → List ℕ → ℕ → Type 0

@@ -37,7 +37,7 @@ fn record(kind: &str) -> String {
 /// All but 27: "The program never lacks room."
 fn needed() -> Vec<String> {
     let records = ["0", "1", "2", "5", "6"].map(record);
-    let stamps = ["stamp sound", "stamp faulty"].map(str::to_string);
+    let stamps = ["stamp sound", "stamp faulty", "stamp open"].map(str::to_string);
     all_numbered(20..=26).into_iter().chain(records).chain(stamps).collect()
 }
 
@@ -133,9 +133,22 @@ fn digits() -> Vec<Question> {
     indices.map(|index| question(&Lot::new(b"", &[], &[[index; 8]]))).collect()
 }
 
+/// The lots that tell the stamps apart: no element, one undecided, one undecided and
+/// one invalid, all valid, all refused, one refused among valid ones.
+fn stamped() -> Vec<Question> {
+    let of = |name: &str| cases().into_iter().find(|case| case.name == name).expect("a case");
+    let nodes = ["A", "C", "F"].map(|name| of(name).points).concat();
+    let [a, c, f, refused] = [0, 8, 16, 17];
+    let lots: [&[u32]; 6] = [&[], &[f], &[f, c], &[a, a], &[refused, refused], &[a, refused, a]];
+    let elements = |firsts: &[u32]| firsts.iter().flat_map(|&first| first..first + 8).collect();
+    let lot = |firsts| Lot { nodes: nodes.clone(), elements: elements(firsts), ..Lot::default() };
+    lots.map(|firsts| question(&lot(firsts))).to_vec()
+}
+
 fn listed() -> Corpora {
     made([
         ("examples and worked cases", worked),
+        ("every stamp", stamped),
         ("every refusal", refused),
         ("numbers of all lengths", digits),
         ("up to 1,000 elements", long),

@@ -36,8 +36,11 @@ faults! {
     // what is inspected
     DepthTwo,
     UndecidedIsFaulty,
+    UndecidedIsSound,
     RefusedIsSound,
+    RefusedIsOpen,
     NoElementsAreFaulty,
+    NoElementsAreSound,
     // refusals
     RefusedWithAColon,
     RefusedWithASlip,
@@ -129,14 +132,21 @@ impl Wrong {
     }
 
     fn stamp_line(&self, answer: &Inspection) -> String {
-        let none = answer.valid + answer.invalid + answer.undecided + answer.refused == 0;
-        let sound = match self.0 {
-            Some(Fault::UndecidedIsFaulty) if answer.undecided > 0 => false,
-            Some(Fault::RefusedIsSound) => answer.invalid == 0,
-            Some(Fault::NoElementsAreFaulty) if none => false,
-            _ => stamp(answer) == Stamp::Sound,
+        let Inspection { valid, invalid, undecided, refused, .. } = *answer;
+        let word = match (self.0, (valid, invalid, undecided, refused)) {
+            (Some(Fault::UndecidedIsFaulty), (_, _, 1.., _)) => "faulty",
+            (Some(Fault::UndecidedIsSound), (_, 0, 1.., 0)) => "sound",
+            (Some(Fault::RefusedIsSound), (_, 0, 0, 1..)) => "sound",
+            (Some(Fault::RefusedIsOpen), (_, 0, _, 1..)) => "open",
+            (Some(Fault::NoElementsAreFaulty), (0, 0, 0, 0)) => "faulty",
+            (Some(Fault::NoElementsAreSound), (0, 0, 0, 0)) => "sound",
+            _ => match stamp(answer).expect("a stamp") {
+                Stamp::Sound => "sound",
+                Stamp::Faulty => "faulty",
+                Stamp::Open => "open",
+            },
         };
-        format!("stamp {}", if sound { "sound" } else { "faulty" })
+        format!("stamp {word}")
     }
 
     fn lines_of_lot(&self, lot: &Lot) -> Vec<String> {

@@ -86,17 +86,29 @@ fn an_empty_label() {
     expect(&two.group(1, b"x"), &named);
 }
 
-/// A lot without elements, and one with an undecided element only, are sound.
+/// Lots with no element, one undecided, one undecided and one invalid, all valid, all
+/// refused, and one refused among valid ones.
 #[test]
 fn stamps() {
-    expect(
-        &lot(b"none", &['A'], &[]).group(0, b"x"),
-        &["lot none", "tally 0 0 0 0", "stamp sound"],
-    );
-    expect(
-        &lot(b"F", &['F'], &[0]),
-        &["lot F", "1 F 2 3 0 0 2 13 -262144 169", "tally 0 0 1 0", "stamp sound"],
-    );
+    const A: &str = "0 0 0 0 0 0 0 1";
+    const C: &str = "1 0 0 0 0 1 -8 1";
+    const F: &str = "2 3 0 0 2 13 -262144 169";
+    const REFUSED: &str = "5 8 8 0 0 0 0 0";
+    let lots: [(&[char], &[u32], &[&str], &str, &str); 6] = [
+        (&['A'], &[], &[], "tally 0 0 0 0", "stamp open"),
+        (&['F'], &[0], &[F], "tally 0 0 1 0", "stamp open"),
+        (&['F', 'C'], &[0, 8], &[F, C], "tally 0 1 1 0", "stamp faulty"),
+        (&['A'], &[0, 0], &[A, A], "tally 2 0 0 0", "stamp sound"),
+        (&['A'], &[1, 1], &[REFUSED, REFUSED], "tally 0 0 0 2", "stamp faulty"),
+        (&['A'], &[0, 1, 0], &[A, REFUSED, A], "tally 2 0 0 1", "stamp faulty"),
+    ];
+    for (cases, elements, records, tally, stamp) in lots {
+        let mut lines = vec!["lot L".to_string()];
+        lines.extend((1..).zip(records).map(|(number, words)| format!("{number} x {words}")));
+        lines.extend([tally, stamp].map(str::to_string));
+        let lines: Vec<&str> = lines.iter().map(String::as_str).collect();
+        expect(&lot(b"L", cases, elements).group(0, b"x"), &lines);
+    }
 }
 
 #[test]
