@@ -131,11 +131,12 @@ stamped =
     record { nodes = unitCube ++ largest; indices = inOrder ++ nextEight; stamp = sound } ∷
     record { nodes = unitCube; indices = missingFourth ++ missingFourth; stamp = faulty } ∷
     record { nodes = unitCube; indices = inOrder ++ missingFourth ++ inOrder; stamp = faulty } ∷
-    record { nodes = unitCube ++ wideTwist; indices = inOrder ++ nextEight; stamp = «open» } ∷ []
+    record { nodes = unitCube ++ wideTwist; indices = inOrder ++ nextEight; stamp = «open» } ∷
+    record { nodes = unitCube ++ turned; indices = inOrder ++ nextEight; stamp = faulty } ∷ []
 
 abbrev pub Stamped : Lot → Type 0
 Stamped t = (stampGiven (inspection base (t .nodes) (t .indices) (length (t .indices)) 0) ≡ some (t .stamp)) × (stampGiven (inspection base (t .nodes) (t .indices) (suc (length (t .indices))) 0) ≡ none)
 
 pub stamped-hold : All Stamped stamped
 unfolding jacobian held numbered at coefficients halve child children whole cornersOf coefficientsOf lowPoint lowCoefficient lastLevel validLevel verdict openedBelow opened recordOf pointsOf outOfRange faultOf elementRecord refusal records inspection stampOf
-stamped-hold = ((refl, refl), ((refl, refl), ((refl, refl), ((refl, refl), ((refl, refl), ((refl, refl), ((refl, refl), tt)))))))
+stamped-hold = ((refl, refl), ((refl, refl), ((refl, refl), ((refl, refl), ((refl, refl), ((refl, refl), ((refl, refl), ((refl, refl), tt))))))))

@@ -176,7 +176,7 @@ module _ (f g : ℕ → List ℤ) (same : (k : ℕ) → (first (f k) ≡ pos 2 �
           ∙ sym (ap₂ stampBy e h)
       go false e false h = absurd (settled (ap₂ stampBy e h))
 
--- A closer look at a mesh: a stamp that is sound or faulty is given again at every greater depth.
+-- A closer look at a mesh: a stamp that is sound or faulty is given again at every greater depth at which the mesh is accepted.
 pub stamp-kept : (L : Limits) (coordinates : List ℤ) (indices : List ℕ) (space space′ : List ℤ) (D D′ : ℕ) → D ≤ D′ → refusalHere L coordinates indices space D ≡ none → refusalHere L coordinates indices space′ D′ ≡ none
     → (stampGiven (inspection L coordinates indices (length space) D) ≡ some «open» → ⊥) → stampGiven (inspection L coordinates indices (length space′) D′) ≡ stampGiven (inspection L coordinates indices (length space) D)
 unfolding records

@@ -111,7 +111,7 @@ pub fn inspect(coordinates: &[i32], indices: &[u32], depth: u32, report: &mut [i
     }
 }
 
-// The stamp of an inspection's counts. A refused mesh has none, and no stamp.
+// The stamp of an accepted mesh, by its counts. An answer that refuses a mesh holds no counts, so a refused mesh has no stamp.
 pub fn stamp_of(n: Counts) -> Stamp
     ensures { λ r. ⌜ stampHeld r ≡ stampOf (countsHeld n) ⌝ }
 {

@@ -77,7 +77,7 @@ abbrev pub Printed : Example → Type 0
 Printed (number z text) = signedDecimal z ≡ text
 Printed (file bytes text) = slipOf base lotFile 3 bytes ≡ text
 
--- the two lots have no undecided element, so that their slips at depth 0 are those at depth 3
+-- the first two lots have no undecided element, so that their slips at depth 0 are those at depth 3
 cube-printed : Printed (file (written cube) cubeSlip)
 unfolding jacobian held numbered at coefficients halve child children whole cornersOf coefficientsOf lowPoint lowCoefficient lastLevel validLevel verdict openedBelow opened recordOf pointsOf outOfRange faultOf elementRecord refusal records report inspection stampOf signed markOf written bodyOf knownOf entryOf readFrom readLot digits decimal lotSlip slipOf
 cube-printed = same-slip base 0 3 (omega arith) (omega arith) cube (λ e. absurd (omega (arith, ap natAbs e)), tt) lotFile (written cube) refl ∙ refl

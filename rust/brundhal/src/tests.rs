@@ -79,17 +79,19 @@ const UNDECIDED: [u32; 8] = [0, 1, 2, 3, 8, 9, 10, 11];
 const REFUSED: [u32; 8] = [0, 1, 2, 3, 4, 5, 6, 12];
 
 /// Lots with no element, one undecided, one undecided and one invalid, all valid, all
-/// refused, and one refused among valid ones: their stamps at every depth, and on the
-/// slip.
+/// refused, one refused among valid ones, one undecided or invalid beside a valid one:
+/// their stamps at every depth, and on the slip.
 #[test]
 fn stamps_of_lots() {
-    let lots: [(&[[u32; 8]], Stamp); 6] = [
+    let lots: [(&[[u32; 8]], Stamp); 8] = [
         (&[], Stamp::Open),
         (&[UNDECIDED], Stamp::Open),
         (&[UNDECIDED, INVALID], Stamp::Faulty),
         (&[VALID, VALID], Stamp::Sound),
         (&[REFUSED, REFUSED], Stamp::Faulty),
         (&[VALID, REFUSED, VALID], Stamp::Faulty),
+        (&[VALID, UNDECIDED], Stamp::Open),
+        (&[VALID, INVALID], Stamp::Faulty),
     ];
     let mut out = Box::new([0; SLIP_BYTES]);
     for (elements, expected) in lots {

@@ -1,5 +1,5 @@
 //! One question to both programs: their answers word by word, what 01 says over
-//! depths, and what 02 says of writing and reading.
+//! depths, and what 02 says of stamps and of writing and reading.
 
 use crate::program::{stamped, Answer, AtDepth, Inspects, Program, Stamp};
 use crate::question::Question;
@@ -274,8 +274,9 @@ fn compared(
 
 /// Asks both programs; every word of the first one's answer, if they agree and the
 /// rules hold of the first.  Those over depths are tested at all depths on an
-/// accepted mesh, an element, and bounds that are not refused; those of reading and
-/// writing on every lot that is read or written.
+/// accepted mesh, an element, and bounds that are not refused; that of the stamp at all
+/// depths on an accepted mesh; those of reading and writing on every lot that is read or
+/// written.
 pub fn ask(first: Program, second: Program, question: &Question) -> Result<Vec<i64>, Difference> {
     let fault = |what: Option<String>| match what {
         None => Ok(()),

@@ -5,8 +5,9 @@
 //! of a lot that is read or written also every word of the lent space, and the label
 //! with its place; of an element's name its place; of a slip every byte.
 //! What 01 says over depths is tested on the library's answers for every
-//! element, accepted mesh and bounds, and what 02 says of writing and reading on
-//! every lot that is accepted.  A difference carries its whole question, in one line
+//! element, accepted mesh and bounds, that the stamp is the one that the records give on
+//! every accepted mesh, and what 02 says of writing and reading on every lot that is
+//! accepted.  A difference carries its whole question, in one line
 //! that `compare again` takes.
 
 #![deny(warnings)]

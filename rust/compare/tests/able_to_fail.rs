@@ -327,7 +327,7 @@ fn every_fault_is_caught() {
 }
 
 /// What is wrong in both places alike: nothing differs between the two, and
-/// the rules over depths, or what 01 prints, must catch it.
+/// the rules over depths, what 01 prints, or the rule of the stamp must catch it.
 #[derive(Clone, Copy, Debug, PartialEq)]
 enum Unsteady {
     ValidBecomesUndecided,

@@ -581,6 +581,8 @@ fn no_word_is_left_from_before() {
         let answer = inspect(&limits, &coordinates, &indices, depth, &mut report);
         assert_eq!(report, expected);
         assert_eq!(answer, counts(tally[0], tally[1], tally[2], tally[5] + tally[6]));
+        let faulty = tally[1] + tally[5] + tally[6] > 0;
+        assert_eq!(stamp(&answer) == Some(Stamp::Faulty), faulty);
         assert_eq!(stamp(&answer), Some(stamp_of_report(&report)));
     }
 }
@@ -595,8 +597,8 @@ fn expect_stamp(answer: Inspection, expected: Stamp) {
     assert_eq!(stamp_of_report(&records.concat()), expected);
 }
 
-/// "sound" with one valid record and no other, "open" with none or with undecided
-/// ones too.
+/// "sound" with valid records and no other, "faulty" with an invalid or a refused one,
+/// "open" with none at all or with undecided ones.
 #[test]
 fn stamps() {
     expect_stamp(counts(0, 0, 0, 0), Stamp::Open);

@@ -133,16 +133,21 @@ fn digits() -> Vec<Question> {
     indices.map(|index| question(&Lot::new(b"", &[], &[[index; 8]]))).collect()
 }
 
-/// The lots that tell the stamps apart: no element, one undecided, one undecided and
-/// one invalid, all valid, all refused, one refused among valid ones.
+/// Lots with each choice of a valid, an invalid, an undecided and a refused element;
+/// and one refused among valid ones.
 fn stamped() -> Vec<Question> {
     let of = |name: &str| cases().into_iter().find(|case| case.name == name).expect("a case");
     let nodes = ["A", "C", "F"].map(|name| of(name).points).concat();
     let [a, c, f, refused] = [0, 8, 16, 17];
-    let lots: [&[u32]; 6] = [&[], &[f], &[f, c], &[a, a], &[refused, refused], &[a, refused, a]];
+    let chosen = |choice: u32| {
+        let kinds = [a, c, f, refused].into_iter().enumerate();
+        kinds.filter(move |(place, _)| choice >> place & 1 == 1).map(|(_, first)| first).collect()
+    };
+    let mut lots: Vec<Vec<u32>> = (0..16).map(chosen).collect();
+    lots.push(vec![a, refused, a]);
     let elements = |firsts: &[u32]| firsts.iter().flat_map(|&first| first..first + 8).collect();
     let lot = |firsts| Lot { nodes: nodes.clone(), elements: elements(firsts), ..Lot::default() };
-    lots.map(|firsts| question(&lot(firsts))).to_vec()
+    lots.iter().map(|firsts| question(&lot(firsts))).collect()
 }
 
 fn listed() -> Corpora {

@@ -87,20 +87,22 @@ fn an_empty_label() {
 }
 
 /// Lots with no element, one undecided, one undecided and one invalid, all valid, all
-/// refused, and one refused among valid ones.
+/// refused, one refused among valid ones, one undecided or invalid beside a valid one.
 #[test]
 fn stamps() {
     const A: &str = "0 0 0 0 0 0 0 1";
     const C: &str = "1 0 0 0 0 1 -8 1";
     const F: &str = "2 3 0 0 2 13 -262144 169";
     const REFUSED: &str = "5 8 8 0 0 0 0 0";
-    let lots: [(&[char], &[u32], &[&str], &str, &str); 6] = [
+    let lots: [(&[char], &[u32], &[&str], &str, &str); 8] = [
         (&['A'], &[], &[], "tally 0 0 0 0", "stamp open"),
         (&['F'], &[0], &[F], "tally 0 0 1 0", "stamp open"),
         (&['F', 'C'], &[0, 8], &[F, C], "tally 0 1 1 0", "stamp faulty"),
         (&['A'], &[0, 0], &[A, A], "tally 2 0 0 0", "stamp sound"),
         (&['A'], &[1, 1], &[REFUSED, REFUSED], "tally 0 0 0 2", "stamp faulty"),
         (&['A'], &[0, 1, 0], &[A, REFUSED, A], "tally 2 0 0 1", "stamp faulty"),
+        (&['A', 'F'], &[0, 8], &[A, F], "tally 1 0 1 0", "stamp open"),
+        (&['A', 'C'], &[0, 8], &[A, C], "tally 1 1 0 0", "stamp faulty"),
     ];
     for (cases, elements, records, tally, stamp) in lots {
         let mut lines = vec!["lot L".to_string()];
