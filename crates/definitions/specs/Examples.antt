@@ -1,19 +1,21 @@
 -- Document 01, "Elements to try": the starred lines, as a single list under one claim.
 use mathlib.Core.Path.{_≡_, refl}
-use mathlib.Core.List.{List, [], _∷_, _++_}
+use mathlib.Core.Bool.{true, false}
+use mathlib.Core.List.{List, [], _∷_, _++_, map}
 use mathlib.Core.Option.{Option, none, some}
-use Prim.Native.Nat.{ℕ, suc}
-use lib.ListN.{length}
+use Prim.Native.Nat.{ℕ, suc, _/_, _%_}
+use lib.Dec.{ltb}
+use lib.ListN.{length, take, drop}
 use lib.IntN.{ℤ, pos, negsuc}
-use Rattle.foundation.specs.Lists.{All}
+use Rattle.foundation.specs.Lists.{All, concatMap, tabulate}
 use Rattle.definitions.specs.Limits.{base}
 use Rattle.definitions.specs.Jacobian.{jacobian, held}
 use Rattle.definitions.specs.Coefficients.{numbered, at, coefficients}
 use Rattle.definitions.specs.Subdivision.{halve, child, children, whole}
 use Rattle.definitions.specs.Verdict.{cornersOf, coefficientsOf, lowPoint, lowCoefficient, lastLevel, validLevel, verdict, openedBelow, opened}
 use Rattle.definitions.specs.Bounds.{low, high}
-use Rattle.definitions.specs.Record.{recordOf}
-use Rattle.definitions.specs.Mesh.{refusal, pointsOf, outOfRange, faultOf, elementRecord, records, report, accepted, refused, badSpace, inspection, reportAfter, Stamp, sound, faulty, «open», stampOf, stampGiven, Bounds, bounds, boundsOf}
+use Rattle.definitions.specs.Record.{words, recordOf}
+use Rattle.definitions.specs.Mesh.{refusal, missingIndex, namedTwice, pointsOf, outOfRange, faultOf, elementRecord, records, report, accepted, refused, badSpace, inspection, reportAfter, Stamp, sound, faulty, «open», stampOf, stampGiven, Bounds, bounds, boundsOf}
 
 -- A: the unit cube
 abbrev pub unitCube : List ℤ
@@ -90,8 +92,61 @@ abbrev pub Holds : Example → Type 0
 Holds e = (elementRecord base (e .nodes) (e .indices) (e .depth) ≡ e .answer) × Bounded (e .nodes) (e .depth) (e .limits)
 
 pub starred-hold : All Holds starred
-unfolding jacobian held numbered at coefficients halve child children whole cornersOf coefficientsOf lowPoint lowCoefficient lastLevel validLevel verdict openedBelow opened low high recordOf pointsOf outOfRange faultOf elementRecord boundsOf
+unfolding jacobian held numbered at coefficients halve child children whole cornersOf coefficientsOf lowPoint lowCoefficient lastLevel validLevel verdict openedBelow opened low high recordOf missingIndex namedTwice pointsOf outOfRange faultOf elementRecord boundsOf
 starred-hold = ((refl, tt), ((refl, tt), ((refl, tt), ((refl, tt), ((refl, refl), ((refl, tt), ((refl, tt), ((refl, tt), ((refl, tt), ((refl, tt), ((refl, tt), ((refl, tt), tt))))))))))))
+
+-- ---- 02, No. 5: one index in two places, as a single list under the same claim
+-- the unit cube's nodes with one index instead of another
+abbrev pub threeOfOne : List ℕ
+threeOfOne = 0 ∷ 1 ∷ 2 ∷ 1 ∷ 4 ∷ 1 ∷ 6 ∷ 7 ∷ []
+
+-- the pair that is complete first is not the pair with the lowest first place
+abbrev pub oneWithinAnother : List ℕ
+oneWithinAnother = 0 ∷ 1 ∷ 1 ∷ 0 ∷ 4 ∷ 5 ∷ 6 ∷ 7 ∷ []
+
+abbrev pub missingTwice : List ℕ
+missingTwice = 0 ∷ 1 ∷ 8 ∷ 8 ∷ 4 ∷ 5 ∷ 6 ∷ 7 ∷ []
+
+abbrev pub missingAfterPair : List ℕ
+missingAfterPair = 0 ∷ 0 ∷ 2 ∷ 3 ∷ 4 ∷ 5 ∷ 6 ∷ 8 ∷ []
+
+abbrev pub thirdTwice : List ℕ
+thirdTwice = 0 ∷ 1 ∷ 2 ∷ 2 ∷ 4 ∷ 5 ∷ 6 ∷ 7 ∷ []
+
+abbrev pub lastTwice : List ℕ
+lastTwice = 0 ∷ 1 ∷ 2 ∷ 3 ∷ 4 ∷ 5 ∷ 6 ∷ 6 ∷ []
+
+abbrev pub allOne : List ℕ
+allOne = 5 ∷ 5 ∷ 5 ∷ 5 ∷ 5 ∷ 5 ∷ 5 ∷ 5 ∷ []
+
+abbrev pub twiceNamed : List Example
+twiceNamed =
+    record { nodes = unitCube; indices = threeOfOne; depth = 0; answer = words 7 2 4 0 0 0 (pos 0) 0; limits = none } ∷
+    record { nodes = unitCube; indices = oneWithinAnother; depth = 1; answer = words 7 1 4 0 0 0 (pos 0) 0; limits = none } ∷
+    record { nodes = unitCube; indices = missingTwice; depth = 0; answer = words 5 3 8 0 0 0 (pos 0) 0; limits = none } ∷
+    record { nodes = unitCube; indices = missingAfterPair; depth = 0; answer = words 5 8 8 0 0 0 (pos 0) 0; limits = none } ∷
+    record { nodes = tooFar; indices = thirdTwice; depth = 2; answer = words 7 3 4 0 0 0 (pos 0) 0; limits = none } ∷
+    record { nodes = tooFar; indices = lastTwice; depth = 0; answer = words 7 7 8 0 0 0 (pos 0) 0; limits = none } ∷
+    record { nodes = unitCube; indices = allOne; depth = 3; answer = words 7 1 2 0 0 0 (pos 0) 0; limits = none } ∷
+    record { nodes = onePoint; indices = allOne; depth = 0; answer = words 7 1 2 0 0 0 (pos 0) 0; limits = none } ∷ []
+
+pub twice-named-hold : All Holds twiceNamed
+unfolding missingIndex namedTwice pointsOf outOfRange faultOf elementRecord
+twice-named-hold = ((refl, tt), ((refl, tt), ((refl, tt), ((refl, tt), ((refl, tt), ((refl, tt), ((refl, tt), ((refl, tt), tt))))))))
+
+-- every pair of places: pair k of the unit cube has the index of its first place in its second too
+abbrev pub pairs : List ℕ
+pairs = concatMap (λ k. elim (ltb (k / 8) (k % 8)) [ true ↦ k ∷ [] | false ↦ [] ]) (tabulate (λ k. k) 0 64)
+
+abbrev pub withPair : ℕ → List ℕ
+withPair k = take (k % 8) inOrder ++ (k / 8) ∷ drop (suc (k % 8)) inOrder
+
+pub every-pair : map (λ k. elementRecord base unitCube (withPair k) 0) pairs ≡ map (λ k. words 7 (suc (k / 8)) (suc (k % 8)) 0 0 0 (pos 0) 0) pairs
+unfolding missingIndex namedTwice pointsOf outOfRange faultOf elementRecord
+every-pair = refl
+
+pub pairs-are-28 : length pairs ≡ 28
+pairs-are-28 = refl
 
 -- ---- a mesh of two elements, the second with a missing node, and room for 16 words
 abbrev pub twoElements : List ℕ
@@ -101,11 +156,11 @@ abbrev pub space : List ℤ
 space = pos 7 ∷ pos 7 ∷ pos 7 ∷ pos 7 ∷ pos 7 ∷ pos 7 ∷ pos 7 ∷ pos 7 ∷ pos 7 ∷ pos 7 ∷ pos 7 ∷ pos 7 ∷ pos 7 ∷ pos 7 ∷ pos 7 ∷ pos 7 ∷ []
 
 pub mesh-report : reportAfter base unitCube twoElements space 0 ≡ pos 0 ∷ pos 0 ∷ pos 0 ∷ pos 0 ∷ pos 0 ∷ pos 0 ∷ pos 0 ∷ pos 1 ∷ pos 5 ∷ pos 4 ∷ pos 8 ∷ pos 0 ∷ pos 0 ∷ pos 0 ∷ pos 0 ∷ pos 0 ∷ []
-unfolding jacobian held numbered at coefficients halve child children whole cornersOf coefficientsOf lowPoint lowCoefficient lastLevel validLevel verdict openedBelow opened recordOf pointsOf outOfRange faultOf elementRecord refusal records report reportAfter
+unfolding jacobian held numbered at coefficients halve child children whole cornersOf coefficientsOf lowPoint lowCoefficient lastLevel validLevel verdict openedBelow opened recordOf missingIndex namedTwice pointsOf outOfRange faultOf elementRecord refusal records report reportAfter
 mesh-report = refl
 
 pub mesh-answer : inspection base unitCube twoElements 16 0 ≡ accepted (record { valid = 1; invalid = 0; undecided = 0; refused = 1 })
-unfolding jacobian held numbered at coefficients halve child children whole cornersOf coefficientsOf lowPoint lowCoefficient lastLevel validLevel verdict openedBelow opened recordOf pointsOf outOfRange faultOf elementRecord refusal records inspection
+unfolding jacobian held numbered at coefficients halve child children whole cornersOf coefficientsOf lowPoint lowCoefficient lastLevel validLevel verdict openedBelow opened recordOf missingIndex namedTwice pointsOf outOfRange faultOf elementRecord refusal records inspection
 mesh-answer = refl
 
 -- one word short: refused with 4, the space as it was
@@ -138,5 +193,5 @@ abbrev pub Stamped : Lot → Type 0
 Stamped t = (stampGiven (inspection base (t .nodes) (t .indices) (length (t .indices)) 0) ≡ some (t .stamp)) × (stampGiven (inspection base (t .nodes) (t .indices) (suc (length (t .indices))) 0) ≡ none)
 
 pub stamped-hold : All Stamped stamped
-unfolding jacobian held numbered at coefficients halve child children whole cornersOf coefficientsOf lowPoint lowCoefficient lastLevel validLevel verdict openedBelow opened recordOf pointsOf outOfRange faultOf elementRecord refusal records inspection stampOf
+unfolding jacobian held numbered at coefficients halve child children whole cornersOf coefficientsOf lowPoint lowCoefficient lastLevel validLevel verdict openedBelow opened recordOf missingIndex namedTwice pointsOf outOfRange faultOf elementRecord refusal records inspection stampOf
 stamped-hold = ((refl, refl), ((refl, refl), ((refl, refl), ((refl, refl), ((refl, refl), ((refl, refl), ((refl, refl), ((refl, refl), tt))))))))

@@ -9,7 +9,7 @@ use lib.IntN.{ℤ, pos, natAbs}
 use Rattle.foundation.specs.Lists.{concatMap, tabulate}
 use Rattle.definitions.specs.Limits.{Limits}
 use Rattle.definitions.specs.Bounds.{low, high}
-use Rattle.definitions.specs.Record.{Fault, missing, outside, faultWords, recordOf}
+use Rattle.definitions.specs.Record.{Fault, missing, twice, outside, faultWords, recordOf}
 
 -- "1 to 4 are tested in that order, and given only then."
 pub data Refusal : Type 0 where
@@ -50,6 +50,18 @@ abbrev pub firstFrom : (ℕ → Bool) → ℕ → ℕ → Option ℕ
 firstFrom p i zero = none
 firstFrom p i (suc n) = elim (p i) [ true ↦ some i | false ↦ firstFrom p (suc i) n ]
 
+-- the first of the eight indices that names none of so many nodes
+unfoldable pub missingIndex : ℕ → List ℕ → Option ℕ
+missingIndex nodes ix = firstFrom (λ k. leb nodes (getD ix k 0)) 0 8
+
+-- 02, No. 5: "One index in two places of an element". Pair k is of the places k / 8 and k % 8, counted from 0.
+abbrev pub sameIndex : List ℕ → ℕ → Bool
+sameIndex ix k = ltb (k / 8) (k % 8) && eqb (getD ix (k / 8) 0) (getD ix (k % 8) 0)
+
+-- the first pair of places with one index: "lowest first place and then lowest second"
+unfoldable pub namedTwice : List ℕ → Option ℕ
+namedTwice ix = firstFrom (sameIndex ix) 0 64
+
 -- "A usable coordinate lies in −range..range"
 abbrev pub usable : Limits → ℤ → Bool
 usable L z = leb (natAbs z) (L .range)
@@ -62,11 +74,15 @@ pointsOf coordinates ix = tabulate (λ k. getD coordinates (3 * getD ix (k / 3) 
 unfoldable pub outOfRange : Limits → List ℤ → Option ℕ
 outOfRange L xs = firstFrom (λ k. not (usable L (getD xs k (pos 0)))) 0 24
 
--- "Within an element all eight indices are tested before any coordinate; lowest place first, then x, y, z."
+-- "Within an element all eight indices are tested before any coordinate; lowest place first, then x, y, z."; 02, No. 5: 7 is "tested after 5 and before 6"
 unfoldable pub faultOf : Limits → List ℤ → List ℕ → Option Fault
-faultOf L coordinates ix = elim (firstFrom (λ k. leb (length coordinates / 3) (getD ix k 0)) 0 8) [
+faultOf L coordinates ix = elim (missingIndex (length coordinates / 3) ix) [
   | some k ↦ some (missing (suc k) (getD ix k 0))
-  | none ↦ elim (outOfRange L (pointsOf coordinates ix)) [ some k ↦ some (outside (suc (k / 3)) (suc (k % 3))) | none ↦ none ]
+  | none ↦
+      elim (namedTwice ix) [
+        | some k ↦ some (twice (suc (k / 8)) (suc (k % 8)))
+        | none ↦ elim (outOfRange L (pointsOf coordinates ix)) [ some k ↦ some (outside (suc (k / 3)) (suc (k % 3))) | none ↦ none ]
+      ]
 ]
 
 unfoldable pub elementRecord : Limits → List ℤ → List ℕ → ℕ → List ℤ

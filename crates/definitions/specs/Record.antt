@@ -22,12 +22,14 @@ verdictWords (undecided l f) n = words 2 l (f .a) (f .b) (f .c) (f .number) (f .
 unfoldable pub recordOf : List ℤ → ℕ → List ℤ
 recordOf xs D = verdictWords (verdict xs D) (opened xs D)
 
--- why an element is refused: the index at a place that names no node; the coordinate at a place and axis that is out of range
+-- why an element is refused: the index at a place that names no node; two places that name one node; the coordinate at a place and axis that is out of range
 pub data Fault : Type 0 where
   missing : (place index : ℕ) → Fault
+  twice : (lower higher : ℕ) → Fault
   outside : (place axis : ℕ) → Fault
 
--- the column "refused"
+-- the column "refused"; 7 is 02's, No. 5
 abbrev pub faultWords : Fault → List ℤ
 faultWords (missing p i) = words 5 p i 0 0 0 (pos 0) 0
+faultWords (twice p q) = words 7 p q 0 0 0 (pos 0) 0
 faultWords (outside p e) = words 6 p e 0 0 0 (pos 0) 0

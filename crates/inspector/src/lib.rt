@@ -63,6 +63,7 @@ fn element(coordinates: &[i32], ix: &[u32], depth: u32) -> [i64; 8]
     match fault {
         Element::Whole => points_record(&p, depth),
         Element::Missing(place, index) => mesh::fault_words(fault),
+        Element::Twice(lower, higher) => mesh::fault_words(fault),
         Element::Outside(place, axis) => mesh::fault_words(fault),
     }
 }

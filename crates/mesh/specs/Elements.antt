@@ -14,14 +14,11 @@ use lib.IntN.{ℤ, pos, natAbs}
 use Rattle.foundation.specs.Lists.{getD-all, tabulate-at}
 use Rattle.foundation.specs.Words.{Within, within}
 use Rattle.definitions.specs.Limits.{Limits}
-use Rattle.definitions.specs.Record.{Fault, missing, outside}
-use Rattle.definitions.specs.Mesh.{Refusal, depthTooGreat, badCoordinates, badIndices, badSpace, wellSized, refusal, usable, pointsOf, outOfRange, faultOf}
-use Rattle.mesh.specs.Meaning.{missingIndex, pointsAfter}
-use Rattle.mesh.specs.Search.{first-below, first-none}
-
--- a test that refuses has not accepted
-never : {A B : Type 0} {x : A} → some x ≡ none → B
-never e = let z : _≡_ {A = ℕ} 0 1 = cc in absurd (omega arith)
+use Rattle.definitions.specs.Record.{Fault, missing, twice, outside}
+use Rattle.definitions.specs.Mesh.{Refusal, depthTooGreat, badCoordinates, badIndices, badSpace, wellSized, refusal, missingIndex, namedTwice, usable, pointsOf, outOfRange, faultOf}
+use Rattle.mesh.specs.Meaning.{pointsAfter}
+use Rattle.mesh.specs.Search.{never, first-below, first-none}
+use Rattle.mesh.specs.Pairs.{distinct}
 
 -- ---- which meshes are refused, by the four tests
 abbrev pub refusalBy : Bool → Bool → Bool → Bool → Option Refusal
@@ -116,17 +113,22 @@ module _ (nodes : ℕ) (ix : List ℕ) where
   unfolding missingIndex
   missing-none e k h = leb-false nodes (getD ix k 0) (first-none (λ k. leb nodes (getD ix k 0)) 0 8 e k (omega arith) h)
 
--- ---- why an element is refused, by what the search of its indices and that of its coordinates find
-abbrev faultBy : List ℕ → Option ℕ → Option ℕ → Option Fault
-faultBy ix m o = elim m [
+-- ---- why an element is refused, by what the search of its indices, that of its pairs of places and that of its coordinates find
+abbrev faultBy : List ℕ → Option ℕ → Option ℕ → Option ℕ → Option Fault
+faultBy ix m t o = elim m [
   | some k ↦ some (missing (suc k) (getD ix k 0))
-  | none ↦ elim o [ some k ↦ some (outside (suc (k / 3)) (suc (k % 3))) | none ↦ none ]
+  | none ↦
+      elim t [
+        | some k ↦ some (twice (suc (k / 8)) (suc (k % 8)))
+        | none ↦ elim o [ some k ↦ some (outside (suc (k / 3)) (suc (k % 3))) | none ↦ none ]
+      ]
 ]
 
-faultBy-none : (ix : List ℕ) (m o : Option ℕ) → faultBy ix m o ≡ none → (m ≡ none) × (o ≡ none)
-faultBy-none ix none none e = (refl, refl)
-faultBy-none ix none (some k) e = never e
-faultBy-none ix (some k) o e = never e
+faultBy-none : (ix : List ℕ) (m t o : Option ℕ) → faultBy ix m t o ≡ none → (m ≡ none) × (t ≡ none) × (o ≡ none)
+faultBy-none ix none none none e = (refl, refl, refl)
+faultBy-none ix none none (some k) e = never e
+faultBy-none ix none (some k) o e = never e
+faultBy-none ix (some k) t o e = never e
 
 -- where its points go
 module _ (coordinates : List ℤ) (ix : List ℕ) (before : List ℤ) where
@@ -144,24 +146,32 @@ module _ (coordinates : List ℤ) (ix : List ℕ) (before : List ℤ) where
 -- What holds of an element that is not refused.
 pub record Whole (L : Limits) (coordinates : List ℤ) (ix : List ℕ) : Type 0 where
   pub named : missingIndex (length coordinates / 3) ix ≡ none
+  pub once : namedTwice ix ≡ none
   pub points : outOfRange L (pointsOf coordinates ix) ≡ none
 
 module _ (L : Limits) (coordinates : List ℤ) (ix : List ℕ) where
-  fault-by : faultOf L coordinates ix ≡ faultBy ix (missingIndex (length coordinates / 3) ix) (outOfRange L (pointsOf coordinates ix))
-  unfolding faultOf missingIndex
+  fault-by : faultOf L coordinates ix ≡ faultBy ix (missingIndex (length coordinates / 3) ix) (namedTwice ix) (outOfRange L (pointsOf coordinates ix))
+  unfolding faultOf
   fault-by = refl
 
   pub fault-missing : (k : ℕ) → missingIndex (length coordinates / 3) ix ≡ some k → faultOf L coordinates ix ≡ some (missing (k + 1) (getD ix k 0))
   fault-missing k m = rw (fault-by, m, add-one)
 
-  pub fault-outside : (k : ℕ) → missingIndex (length coordinates / 3) ix ≡ none → outOfRange L (pointsOf coordinates ix) ≡ some k
-      → faultOf L coordinates ix ≡ some (outside (k / 3 + 1) (k % 3 + 1))
-  fault-outside k m o = rw (fault-by, m, o) (simp add-one)
+  pub fault-twice : (k : ℕ) → missingIndex (length coordinates / 3) ix ≡ none → namedTwice ix ≡ some k → faultOf L coordinates ix ≡ some (twice (k / 8 + 1) (k % 8 + 1))
+  fault-twice k m t = rw (fault-by, m, t) (simp add-one)
 
-  pub fault-none : missingIndex (length coordinates / 3) ix ≡ none → outOfRange L (pointsOf coordinates ix) ≡ none → faultOf L coordinates ix ≡ none
-  fault-none m o = rw (fault-by, m, o)
+  pub fault-outside : (k : ℕ) → missingIndex (length coordinates / 3) ix ≡ none → namedTwice ix ≡ none → outOfRange L (pointsOf coordinates ix) ≡ some k
+      → faultOf L coordinates ix ≡ some (outside (k / 3 + 1) (k % 3 + 1))
+  fault-outside k m t o = rw (fault-by, m, t, o) (simp add-one)
+
+  pub fault-none : missingIndex (length coordinates / 3) ix ≡ none → namedTwice ix ≡ none → outOfRange L (pointsOf coordinates ix) ≡ none → faultOf L coordinates ix ≡ none
+  fault-none m t o = rw (fault-by, m, t, o)
 
   pub whole-element : faultOf L coordinates ix ≡ none → Whole L coordinates ix
   whole-element e =
-      let found = faultBy-none ix (missingIndex (length coordinates / 3) ix) (outOfRange L (pointsOf coordinates ix)) (sym fault-by ∙ e) in
-      record { named = found .0; points = found .1 }
+      let found = faultBy-none ix (missingIndex (length coordinates / 3) ix) (namedTwice ix) (outOfRange L (pointsOf coordinates ix)) (sym fault-by ∙ e) in
+      record { named = found .0; once = found .1; points = found .2 }
+
+  -- an element that is not refused has eight different nodes
+  pub distinct-nodes : faultOf L coordinates ix ≡ none → (a b : ℕ) → a < b → b < 8 → getD ix a 0 ≡ getD ix b 0 → ⊥
+  distinct-nodes e = distinct ix (whole-element e .once)

@@ -1,4 +1,5 @@
 pub mod Meaning
 pub mod Search
+pub mod Pairs
 pub mod Elements
 pub mod Report

@@ -1,18 +1,17 @@
 -- What the code's answers stand for in the definitions.
 use mathlib.Core.List.{List}
 use mathlib.Core.Option.{Option, none, some}
-use Prim.Native.Nat.{ℕ, _/_}
-use lib.Dec.{leb}
-use lib.ListN.{getD, length}
+use Prim.Native.Nat.{ℕ, _*_, _/_}
+use lib.ListN.{length}
 use lib.IntN.{ℤ, pos}
-use Rattle.definitions.specs.Record.{Fault, missing, outside, words, faultWords}
-use Rattle.definitions.specs.Mesh.{Refusal, depthTooGreat, badCoordinates, badIndices, badSpace, firstFrom, pointsOf, Counts}
+use Rattle.definitions.specs.Record.{Fault, missing, twice, outside, words, faultWords}
+use Rattle.definitions.specs.Mesh.{Refusal, depthTooGreat, badCoordinates, badIndices, badSpace, firstFrom, missingIndex, sameIndex, pointsOf, Counts}
 use Rattle.mesh.specs.declared.Checked.{Checked}
 use Rattle.mesh.specs.declared.Checked.the-variants.{Accepted, DepthTooGreat, BadCoordinates, BadIndices, BadSpace}
 use Rattle.mesh.specs.declared.First.{First}
 use Rattle.mesh.specs.declared.First.the-variants.{At, Nothing}
 use Rattle.mesh.specs.declared.Element.{Element}
-use Rattle.mesh.specs.declared.Element.the-variants.{Whole, Missing, Outside}
+use Rattle.mesh.specs.declared.Element.the-variants.{Whole, Missing, Twice, Outside}
 use Rattle.mesh.specs.declared.Counts.{Counts as Held}
 
 abbrev pub checkOf : Checked → Option Refusal
@@ -26,9 +25,9 @@ abbrev pub firstOf : First → Option ℕ
 firstOf (At k) = some k
 firstOf Nothing = none
 
--- the first of the eight indices that is not below the number of nodes, as `faultOf` has it
-unfoldable pub missingIndex : ℕ → List ℕ → Option ℕ
-missingIndex nodes ix = firstFrom (λ k. leb nodes (getD ix k 0)) 0 8
+-- of the pairs with this first place, the first with one index
+unfoldable pub sameAfter : List ℕ → ℕ → Option ℕ
+sameAfter ix first = firstFrom (sameIndex ix) (8 * first) 8
 
 -- what stands where an element's points go: the points, once all eight indices name nodes
 unfoldable pub pointsAfter : List ℤ → List ℕ → List ℤ → List ℤ
@@ -37,6 +36,7 @@ pointsAfter coordinates ix before = elim (missingIndex (length coordinates / 3) 
 abbrev pub elementOf : Element → Option Fault
 elementOf Whole = none
 elementOf (Missing p i) = some (missing p i)
+elementOf (Twice p q) = some (twice p q)
 elementOf (Outside p e) = some (outside p e)
 
 -- the record of a refused element, and eight zeros where nothing is at fault

@@ -9,7 +9,7 @@ use lib.Seq.{take-at, drop-at, drop-drop}
 use lib.IntN.{ℤ, pos, natAbs}
 use Rattle.definitions.specs.Limits.{Limits}
 use Rattle.definitions.specs.Verdict.{Verdict, valid, invalid, undecided, verdict, opened}
-use Rattle.definitions.specs.Record.{Fault, missing, outside, faultWords, verdictWords, recordOf}
+use Rattle.definitions.specs.Record.{Fault, missing, twice, outside, faultWords, verdictWords, recordOf}
 use Rattle.definitions.specs.Mesh.{pointsOf, faultOf, elementRecord}
 
 -- ---- word 0 of a record is never negative
@@ -23,6 +23,7 @@ kind-natural L coordinates ix D = by-case (faultOf L coordinates ix) (verdict (p
 
     by-case : (o : Option Fault) (v : Verdict) (n : ℕ) → word o v n ≡ pos (natAbs (word o v n))
     by-case (some (missing p i)) v n = refl
+    by-case (some (twice p q)) v n = refl
     by-case (some (outside p e)) v n = refl
     by-case none (valid l) n = refl
     by-case none (invalid l f) n = refl

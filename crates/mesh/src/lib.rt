@@ -8,8 +8,8 @@ ghost use Prim.Native.Nat.{ℕ, _+_, _-_, _*_, _/_, _^_, _<_, _≤_};
 ghost use lib.ListN.{length, getD, take, drop};
 ghost use lib.IntN.{pos, natAbs};
 ghost use Rattle.definitions.specs.Limits.{base};
-ghost use Rattle.definitions.specs.Mesh.{wellSized, refusal, usable, pointsOf, outOfRange, faultOf, counted};
-ghost use Rattle.mesh.specs.Meaning.{checkOf, firstOf, missingIndex, pointsAfter, elementOf, refusedWords, countsHeld};
+ghost use Rattle.definitions.specs.Mesh.{wellSized, refusal, missingIndex, namedTwice, usable, pointsOf, outOfRange, faultOf, counted};
+ghost use Rattle.mesh.specs.Meaning.{checkOf, firstOf, sameAfter, pointsAfter, elementOf, refusedWords, countsHeld};
 ghost use Rattle.verdict.specs.Elements.{total};
 
 // The limits of the definitions' `base`; the greatest depth is `address`'s.
@@ -43,6 +43,8 @@ pub enum Element {
     Whole,
     // The place, 1 to 8, of an index that names no node, and that index.
     Missing(u32, u32),
+    // The lower and the higher place, 1 to 8, of one index.
+    Twice(u32, u32),
     // The place, 1 to 8, and the axis, 1 to 3, of a coordinate that is out of range.
     Outside(u32, u32),
 }
@@ -103,6 +105,36 @@ fn missing_index(nodes: usize, ix: &[u32]) -> First
     First::Nothing
 }
 
+// Of the pairs of an element's places with this first place, counted as the definitions count them, the first with one index.
+fn same_after(ix: &[u32], first: usize) -> First
+    requires { ⌜ length (now ix) ≡ 8 ⌝ }
+    requires { ⌜ first < 8 ⌝ }
+    ensures { λ r. ⌜ firstOf r ≡ sameAfter (now (ix .entry)) first ⌝ }
+{
+    let index = ix[first];
+    for second in first + 1..8 {
+        let other = ix[second];
+        if index == other {
+            return First::At((8 * first + second) as u32);
+        }
+    }
+    First::Nothing
+}
+
+// The first pair of an element's places with one index.
+fn named_twice(ix: &[u32]) -> First
+    requires { ⌜ length (now ix) ≡ 8 ⌝ }
+    ensures { λ r. ⌜ firstOf r ≡ namedTwice (now (ix .entry)) ⌝ }
+{
+    for first in 0..8 {
+        let pair = same_after(ix, first);
+        if let First::At(k) = pair {
+            return First::At(k);
+        }
+    }
+    First::Nothing
+}
+
 // The first of the 24 coordinates of eight points that is out of range.
 pub fn out_of_range(p: &[i32; 24]) -> First
     ensures { λ r. ⌜ firstOf r ≡ outOfRange base (now (p .entry)) ⌝ }
@@ -134,7 +166,8 @@ fn gather(coordinates: &[i32], ix: &[u32], p: &mut [i32; 24])
     }
 }
 
-// Why an element is refused, if it is: all eight indices are tested before any coordinate. Where they all name nodes, p has the points.
+// Why an element is refused, if it is: a missing node goes before a node named twice, and this before a coordinate out of range.
+// Where all eight indices name nodes, p has the points.
 pub fn fault(coordinates: &[i32], ix: &[u32], p: &mut [i32; 24]) -> Element
     requires { ⌜ length (now ix) ≡ 8 ⌝ }
     requires { ⌜ length (now p) ≡ 24 ⌝ }
@@ -148,7 +181,13 @@ pub fn fault(coordinates: &[i32], ix: &[u32], p: &mut [i32; 24]) -> Element
         return Element::Missing(place, index);
     }
     gather(coordinates, ix, p);
+    let twice = named_twice(ix);
     let outside = out_of_range(p);
+    if let First::At(k) = twice {
+        let lower = k / 8 + 1;
+        let higher = k % 8 + 1;
+        return Element::Twice(lower, higher);
+    }
     if let First::At(k) = outside {
         let place = k / 3 + 1;
         let axis = k % 3 + 1;
@@ -164,6 +203,7 @@ pub fn fault_words(f: Element) -> [i64; 8]
     match f {
         Element::Whole => [0, 0, 0, 0, 0, 0, 0, 0],
         Element::Missing(place, index) => [5, place as i64, index as i64, 0, 0, 0, 0, 0],
+        Element::Twice(lower, higher) => [7, lower as i64, higher as i64, 0, 0, 0, 0, 0],
         Element::Outside(place, axis) => [6, place as i64, axis as i64, 0, 0, 0, 0, 0],
     }
 }

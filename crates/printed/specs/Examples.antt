@@ -11,8 +11,8 @@ use Rattle.definitions.specs.Coefficients.{numbered, at, coefficients}
 use Rattle.definitions.specs.Subdivision.{halve, child, children, whole}
 use Rattle.definitions.specs.Verdict.{cornersOf, coefficientsOf, lowPoint, lowCoefficient, lastLevel, validLevel, verdict, openedBelow, opened}
 use Rattle.definitions.specs.Record.{recordOf}
-use Rattle.definitions.specs.Mesh.{refusal, pointsOf, outOfRange, faultOf, elementRecord, records, report, inspection, stampOf}
-use Rattle.definitions.specs.Examples.{unitCube, inOrder, twoElements}
+use Rattle.definitions.specs.Mesh.{refusal, missingIndex, namedTwice, pointsOf, outOfRange, faultOf, elementRecord, records, report, inspection, stampOf}
+use Rattle.definitions.specs.Examples.{unitCube, inOrder, threeOfOne, twoElements}
 use Rattle.lotfile.specs.Numbers.{signed}
 use Rattle.lotfile.specs.Format.{lotFile, Lot, markOf, written}
 use Rattle.lotfile.specs.Reading.{bodyOf, knownOf, entryOf, readFrom, readLot}
@@ -31,16 +31,17 @@ cubeSlip = (108 ∷ 111 ∷ 116 ∷ 32 ∷ 67 ∷ 85 ∷ 66 ∷ 69 ∷ 10 ∷ []
     ++ (116 ∷ 97 ∷ 108 ∷ 108 ∷ 121 ∷ 32 ∷ 49 ∷ 32 ∷ 48 ∷ 32 ∷ 48 ∷ 32 ∷ 48 ∷ 10 ∷ [])
     ++ (115 ∷ 116 ∷ 97 ∷ 109 ∷ 112 ∷ 32 ∷ 115 ∷ 111 ∷ 117 ∷ 110 ∷ 100 ∷ 10 ∷ [])
 
--- a lot with the empty label, a group with the empty name and one named B, whose element lacks a node
+-- a lot with the empty label, a group with the empty name and one named B, of whose elements one lacks a node and one has a node three times
 abbrev pub nameless : Lot
-nameless = record { label = []; nodes = unitCube; elements = twoElements; groups = record { name = []; before = 0 } ∷ record { name = 66 ∷ []; before = 1 } ∷ [] }
+nameless = record { label = []; nodes = unitCube; elements = twoElements ++ threeOfOne; groups = record { name = []; before = 0 } ∷ record { name = 66 ∷ []; before = 1 } ∷ [] }
 
--- "lot ", "1  0 0 0 0 0 0 0 1", "2 B 5 4 8 0 0 0 0 0", "tally 1 0 0 1", "stamp faulty"
+-- "lot ", "1  0 0 0 0 0 0 0 1", "2 B 5 4 8 0 0 0 0 0", "3 B 7 2 4 0 0 0 0 0", "tally 1 0 0 2", "stamp faulty"
 abbrev pub namelessSlip : List ℕ
 namelessSlip = (108 ∷ 111 ∷ 116 ∷ 32 ∷ 10 ∷ [])
     ++ (49 ∷ 32 ∷ 32 ∷ 48 ∷ 32 ∷ 48 ∷ 32 ∷ 48 ∷ 32 ∷ 48 ∷ 32 ∷ 48 ∷ 32 ∷ 48 ∷ 32 ∷ 48 ∷ 32 ∷ 49 ∷ 10 ∷ [])
     ++ (50 ∷ 32 ∷ 66 ∷ 32 ∷ 53 ∷ 32 ∷ 52 ∷ 32 ∷ 56 ∷ 32 ∷ 48 ∷ 32 ∷ 48 ∷ 32 ∷ 48 ∷ 32 ∷ 48 ∷ 32 ∷ 48 ∷ 10 ∷ [])
-    ++ (116 ∷ 97 ∷ 108 ∷ 108 ∷ 121 ∷ 32 ∷ 49 ∷ 32 ∷ 48 ∷ 32 ∷ 48 ∷ 32 ∷ 49 ∷ 10 ∷ [])
+    ++ (51 ∷ 32 ∷ 66 ∷ 32 ∷ 55 ∷ 32 ∷ 50 ∷ 32 ∷ 52 ∷ 32 ∷ 48 ∷ 32 ∷ 48 ∷ 32 ∷ 48 ∷ 32 ∷ 48 ∷ 32 ∷ 48 ∷ 10 ∷ [])
+    ++ (116 ∷ 97 ∷ 108 ∷ 108 ∷ 121 ∷ 32 ∷ 49 ∷ 32 ∷ 48 ∷ 32 ∷ 48 ∷ 32 ∷ 50 ∷ 10 ∷ [])
     ++ (115 ∷ 116 ∷ 97 ∷ 109 ∷ 112 ∷ 32 ∷ 102 ∷ 97 ∷ 117 ∷ 108 ∷ 116 ∷ 121 ∷ 10 ∷ [])
 
 -- a lot that has a label and nothing else
@@ -79,12 +80,12 @@ Printed (file bytes text) = slipOf base lotFile 3 bytes ≡ text
 
 -- the first two lots have no undecided element, so that their slips at depth 0 are those at depth 3
 cube-printed : Printed (file (written cube) cubeSlip)
-unfolding jacobian held numbered at coefficients halve child children whole cornersOf coefficientsOf lowPoint lowCoefficient lastLevel validLevel verdict openedBelow opened recordOf pointsOf outOfRange faultOf elementRecord refusal records report inspection stampOf signed markOf written bodyOf knownOf entryOf readFrom readLot digits decimal lotSlip slipOf
+unfolding jacobian held numbered at coefficients halve child children whole cornersOf coefficientsOf lowPoint lowCoefficient lastLevel validLevel verdict openedBelow opened recordOf missingIndex namedTwice pointsOf outOfRange faultOf elementRecord refusal records report inspection stampOf signed markOf written bodyOf knownOf entryOf readFrom readLot digits decimal lotSlip slipOf
 cube-printed = same-slip base 0 3 (omega arith) (omega arith) cube (λ e. absurd (omega (arith, ap natAbs e)), tt) lotFile (written cube) refl ∙ refl
 
 nameless-printed : Printed (file (written nameless) namelessSlip)
-unfolding jacobian held numbered at coefficients halve child children whole cornersOf coefficientsOf lowPoint lowCoefficient lastLevel validLevel verdict openedBelow opened recordOf pointsOf outOfRange faultOf elementRecord refusal records report inspection stampOf signed markOf written bodyOf knownOf entryOf readFrom readLot digits decimal lotSlip slipOf
-nameless-printed = same-slip base 0 3 (omega arith) (omega arith) nameless (λ e. absurd (omega (arith, ap natAbs e)), (λ e. absurd (omega (arith, ap natAbs e)), tt)) lotFile (written nameless) refl ∙ refl
+unfolding jacobian held numbered at coefficients halve child children whole cornersOf coefficientsOf lowPoint lowCoefficient lastLevel validLevel verdict openedBelow opened recordOf missingIndex namedTwice pointsOf outOfRange faultOf elementRecord refusal records report inspection stampOf signed markOf written bodyOf knownOf entryOf readFrom readLot digits decimal lotSlip slipOf
+nameless-printed = same-slip base 0 3 (omega arith) (omega arith) nameless (λ e. absurd (omega (arith, ap natAbs e)), (λ e. absurd (omega (arith, ap natAbs e)), (λ e. absurd (omega (arith, ap natAbs e)), tt))) lotFile (written nameless) refl ∙ refl
 
 bare-printed : Printed (file (written bare) bareSlip)
 unfolding refusal records report inspection stampOf markOf written bodyOf knownOf entryOf readFrom readLot digits decimal lotSlip slipOf

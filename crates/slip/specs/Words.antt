@@ -1,5 +1,5 @@
 -- Every word of a report is a number of 64 bits. Document 01: "the largest magnitude at depth 3 is at most 6,917,529,027,641,081,856, which fits 64 bits".
-use mathlib.Core.Path.{_≡_, refl, sym, ap, subst}
+use mathlib.Core.Path.{_≡_, refl, sym, _∙_, ap, subst}
 use mathlib.Core.Bool.{not}
 use mathlib.Core.List.{List}
 use mathlib.Core.Option.{Option, none, some}
@@ -13,8 +13,8 @@ use Rattle.foundation.specs.Words.{within, sfits-below}
 use Rattle.definitions.specs.Limits.{base}
 use Rattle.definitions.specs.Subdivision.{Cell, cells}
 use Rattle.definitions.specs.Verdict.{Finding, cornersOf, coefficientsOf, Verdict, valid, invalid, undecided, verdict, opened}
-use Rattle.definitions.specs.Record.{missing, outside, verdictWords, recordOf}
-use Rattle.definitions.specs.Mesh.{pointsOf, outOfRange, usable, elementRecord, records, report}
+use Rattle.definitions.specs.Record.{Fault, words, faultWords, verdictWords, recordOf}
+use Rattle.definitions.specs.Mesh.{missingIndex, namedTwice, pointsOf, outOfRange, usable, faultOf, elementRecord, records, report}
 use Rattle.expansion.specs.Size.{coefficient-size}
 use Rattle.expansion.specs.Cells.{CellOf, all-cells, corner-is}
 use Rattle.verdict.specs.Findings.{first-has}
@@ -22,9 +22,9 @@ use Rattle.verdict.specs.Positive.{findings-of, corners-of}
 use Rattle.verdict.specs.Meaning.{Means, means}
 use Rattle.verdict.specs.Opened.{most, opened-most}
 use Rattle.verdict.specs.Elements.{element-fault, element-points}
-use Rattle.mesh.specs.Meaning.{missingIndex}
 use Rattle.mesh.specs.Search.{first-below}
-use Rattle.mesh.specs.Elements.{points-within, length-points, missing-below, fault-missing, fault-outside, fault-none}
+use Rattle.mesh.specs.Pairs.{twice-below}
+use Rattle.mesh.specs.Elements.{points-within, length-points, missing-below, fault-missing, fault-twice, fault-outside, fault-none}
 use Rattle.printed.specs.Room.{Held}
 
 -- the largest magnitude that is held at depth 3
@@ -102,20 +102,26 @@ module _ (coordinates : List ℤ) (ix : List ℕ) (small : All Index ix) (D : �
   unfolding outOfRange
   outside-below k e = first-below (λ j. not (usable base (getD (pointsOf coordinates ix) j (pos 0)))) 0 24 k e
 
+  -- the words of a refused element: its number and two more
+  refused-held : (f : Fault) (n p q : ℕ) → faultOf base coordinates ix ≡ some f → faultWords f ≡ words n p q 0 0 0 (pos 0) 0 → n < 8 → p < 9 → q < 2 ^ 32 → All Held (elementRecord base coordinates ix D)
+  refused-held f n p q e w k l m = subst (All Held) (sym (element-fault base coordinates ix D f e ∙ w))
+      (omega arith, (omega arith, (omega arith, (omega arith, (omega arith, (omega arith, (omega arith, (omega arith, tt))))))))
+
   element-held : All Held (elementRecord base coordinates ix D)
-  element-held = go (missingIndex (length coordinates / 3) ix) refl (outOfRange base (pointsOf coordinates ix)) refl
+  element-held = go (missingIndex (length coordinates / 3) ix) refl (namedTwice ix) refl (outOfRange base (pointsOf coordinates ix)) refl
     where
-      go : (m : Option ℕ) → missingIndex (length coordinates / 3) ix ≡ m → (o : Option ℕ) → outOfRange base (pointsOf coordinates ix) ≡ o → All Held (elementRecord base coordinates ix D)
-      go (some k) e o f =
+      go : (m : Option ℕ) → missingIndex (length coordinates / 3) ix ≡ m → (t : Option ℕ) → namedTwice ix ≡ t → (o : Option ℕ) → outOfRange base (pointsOf coordinates ix) ≡ o
+          → All Held (elementRecord base coordinates ix D)
+      go (some k) e t g o f =
           let below = missing-below (length coordinates / 3) ix k e in
-          let index = all-getD-default Index ix 0 k (omega arith) small in
-          subst (All Held) (sym (element-fault base coordinates ix D (missing (k + 1) (getD ix k 0)) (fault-missing base coordinates ix k e)))
-          (omega arith, (omega arith, (omega arith, (omega arith, (omega arith, (omega arith, (omega arith, (omega arith, tt))))))))
-      go none e (some k) f =
+          refused-held _ 5 (k + 1) (getD ix k 0) (fault-missing base coordinates ix k e) refl (omega arith) (omega arith) (all-getD-default Index ix 0 k (omega arith) small)
+      go none e (some k) g o f =
+          let below = twice-below ix k g in
+          refused-held _ 7 (k / 8 + 1) (k % 8 + 1) (fault-twice base coordinates ix k e g) refl (omega arith) (omega arith) (omega arith)
+      go none e none g (some k) f =
           let below = outside-below k f in
-          subst (All Held) (sym (element-fault base coordinates ix D (outside (k / 3 + 1) (k % 3 + 1)) (fault-outside base coordinates ix k e f)))
-          (omega arith, (omega arith, (omega arith, (omega arith, (omega arith, (omega arith, (omega arith, (omega arith, tt))))))))
-      go none e none f = subst (All Held) (sym (element-points base coordinates ix D (fault-none base coordinates ix e f))) (record-held (pointsOf coordinates ix) (length-points coordinates ix) f D shallow)
+          refused-held _ 6 (k / 3 + 1) (k % 3 + 1) (fault-outside base coordinates ix k e g f) refl (omega arith) (omega arith) (omega arith)
+      go none e none g none f = subst (All Held) (sym (element-points base coordinates ix D (fault-none base coordinates ix e g f))) (record-held (pointsOf coordinates ix) (length-points coordinates ix) f D shallow)
 
 -- ---- the report
 part : (n m : ℕ) (ix : List ℕ) → All Index ix → All Index (take n (drop m ix))

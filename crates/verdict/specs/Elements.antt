@@ -11,7 +11,7 @@ use lib.IntN.{ℤ, pos, natAbs}
 use Rattle.foundation.specs.Lists.{All, all-every, all-tabulate, concatMap, tabulate, length-tabulate}
 use Rattle.definitions.specs.Limits.{Limits}
 use Rattle.definitions.specs.Verdict.{Verdict, valid, invalid, undecided, verdict, opened}
-use Rattle.definitions.specs.Record.{Fault, missing, outside, faultWords, verdictWords, recordOf}
+use Rattle.definitions.specs.Record.{Fault, missing, twice, outside, faultWords, verdictWords, recordOf}
 use Rattle.definitions.specs.Mesh.{pointsOf, faultOf, elementRecord, records, report, Counts, noCounts, counted, countsOf}
 use Rattle.verdict.specs.CloserLook.{first, settled-same}
 use Rattle.verdict.specs.Stable.{Way, isInvalid, isValid, isUndecided, way, invalid-same, valid-same, undecided-verdict}
@@ -54,6 +54,7 @@ record-length xs D = go (verdict xs D)
 
 fault-length : (f : Fault) → length (faultWords f) ≡ 8
 fault-length (missing p i) = refl
+fault-length (twice p q) = refl
 fault-length (outside p e) = refl
 
 pub element-length : (L : Limits) (coordinates : List ℤ) (ix : List ℕ) (D : ℕ) → length (elementRecord L coordinates ix D) ≡ 8

@@ -1,4 +1,4 @@
-// Inspects the worked elements of the scope document and prints their records and bounds at every depth.
+// Inspects the worked elements of the scope document, and one with an index in three places, and prints their records and bounds at every depth.
 use inspector::Bounds;
 
 // A number with its sign.
@@ -78,11 +78,11 @@ fn print_element(name: &[u8], points: [i32; 24], indices: [u32; 8]) {
 fn main() {
     io::write_all(
         1,
-        b"Each record has eight words: kind (0 valid, 1 invalid, 2 undecided, 5 or 6 refused); level, or place of the fault;\n",
+        b"Each record has eight words: kind (0 valid, 1 invalid, 2 undecided, 5 to 7 refused); level, or place of the fault;\n",
     );
     io::write_all(
         1,
-        b"three grid numbers of the point or cell, or the index or axis at fault; corner or coefficient number; its value\n",
+        b"three grid numbers of the point or cell, or the index, axis or second place at fault; corner or coefficient number; its value\n",
     );
     io::write_all(
         1,
@@ -387,5 +387,35 @@ fn main() {
             1,
         ],
         [0, 1, 2, 8, 4, 5, 6, 7],
+    );
+    print_element(
+        b"   unit cube with index 1 in places 2, 4 and 6 (02, No. 5)",
+        [
+            0,
+            0,
+            0,
+            1,
+            0,
+            0,
+            1,
+            1,
+            0,
+            0,
+            1,
+            0,
+            0,
+            0,
+            1,
+            1,
+            0,
+            1,
+            1,
+            1,
+            1,
+            0,
+            1,
+            1,
+        ],
+        [0, 1, 2, 1, 4, 1, 6, 7],
     );
 }

@@ -58,21 +58,27 @@ fn block(shaker: &mut Shaker) -> Lot {
     Lot { name: "valid at level 0", coordinates, indices }
 }
 
-/// Half with an index that names no node, half with a coordinate outside the
-/// range, at any place.
+/// A third with a coordinate outside the range, a third with an index that names no
+/// node, and a third with an index in two places: any places.
 fn refused(shaker: &mut Shaker) -> Lot {
-    let half = ELEMENTS / 2;
+    let third = ELEMENTS / 3;
     let mut coordinates = Vec::new();
     let mut indices = Vec::new();
-    for element in 0..half as u32 {
+    for element in 0..third as u32 {
         let mut points = narrow(&cube(0, 900));
         points[shaker.between(0, 23) as usize] = 4097;
         coordinates.extend(points);
         indices.extend(IN_ORDER.map(|n| 8 * element + n));
     }
-    for _ in 0..ELEMENTS - half {
+    for _ in 0..third {
         let mut element = IN_ORDER;
-        element[shaker.between(0, 7) as usize] = 8 * half as u32;
+        element[shaker.between(0, 7) as usize] = 8 * third as u32;
+        indices.extend(element);
+    }
+    for _ in 2 * third..ELEMENTS {
+        let mut element = IN_ORDER;
+        let lower = shaker.between(0, 6);
+        element[lower as usize] = element[shaker.between(lower + 1, 7) as usize];
         indices.extend(element);
     }
     Lot { name: "refused", coordinates, indices }

@@ -20,11 +20,26 @@ fn refusal(coordinates: &[i32], indices: &[u32], depth: u32, report: &[i64]) -> 
     }
 }
 
+/// The first two places, counted from 1, with one index.
+fn pair(element: &[u32]) -> Option<(usize, usize)> {
+    for lower in 0..8 {
+        for higher in lower + 1..8 {
+            if element[lower] == element[higher] {
+                return Some((lower + 1, higher + 1));
+            }
+        }
+    }
+    None
+}
+
 /// The eight points of an element, or the record that refuses it.
 fn points(coordinates: &[i32], element: &[u32]) -> Result<[[i64; 3]; 8], Record> {
     let nodes = coordinates.len() / 3;
     if let Some(place) = element.iter().position(|&index| index as usize >= nodes) {
         return Err([5, place as i64 + 1, i64::from(element[place]), 0, 0, 0, 0, 0]);
+    }
+    if let Some((lower, higher)) = pair(element) {
+        return Err([7, lower as i64, higher as i64, 0, 0, 0, 0, 0]);
     }
     let mut points = [[0; 3]; 8];
     for (place, &index) in element.iter().enumerate() {

@@ -77,19 +77,21 @@ const VALID: [u32; 8] = [0, 1, 2, 3, 4, 5, 6, 7];
 const INVALID: [u32; 8] = [4, 5, 6, 7, 0, 1, 2, 3];
 const UNDECIDED: [u32; 8] = [0, 1, 2, 3, 8, 9, 10, 11];
 const REFUSED: [u32; 8] = [0, 1, 2, 3, 4, 5, 6, 12];
+const TWICE: [u32; 8] = [0, 1, 2, 3, 4, 5, 6, 3];
 
 /// Lots with no element, one undecided, one undecided and one invalid, all valid, all
-/// refused, one refused among valid ones, one undecided or invalid beside a valid one:
-/// their stamps at every depth, and on the slip.
+/// refused, one refused among valid ones, one with a node twice, one undecided or
+/// invalid beside a valid one: their stamps at every depth, and on the slip.
 #[test]
 fn stamps_of_lots() {
-    let lots: [(&[[u32; 8]], Stamp); 8] = [
+    let lots: [(&[[u32; 8]], Stamp); 9] = [
         (&[], Stamp::Open),
         (&[UNDECIDED], Stamp::Open),
         (&[UNDECIDED, INVALID], Stamp::Faulty),
         (&[VALID, VALID], Stamp::Sound),
         (&[REFUSED, REFUSED], Stamp::Faulty),
         (&[VALID, REFUSED, VALID], Stamp::Faulty),
+        (&[VALID, TWICE], Stamp::Faulty),
         (&[VALID, UNDECIDED], Stamp::Open),
         (&[VALID, INVALID], Stamp::Faulty),
     ];
@@ -107,6 +109,52 @@ fn stamps_of_lots() {
         let length = slip(&file[..written.len as usize], &mut out);
         assert!(out[..length].ends_with(format!("\nstamp {expected}\n").as_bytes()));
     }
+}
+
+/// The record of one element over `NODES`, the same at every depth and over any old
+/// words; it counts among the refused.
+#[track_caller]
+fn expect_refused(nodes: &[i32], element: [u32; 8], words: [i64; 8]) {
+    for depth in 0..=3 {
+        let mut report = [i64::MIN; 8];
+        let answer = inspect(nodes, &element, depth, &mut report);
+        assert_eq!(answer, Inspection { refused: 1, ..Inspection::default() });
+        assert_eq!(report, words);
+    }
+}
+
+/// One index in two places: each pair, the lowest of several, after a missing node,
+/// before a coordinate out of range, and eight times the same.
+#[test]
+fn a_node_named_twice() {
+    let pair = |lower: usize, higher: usize| [7, lower as i64, higher as i64, 0, 0, 0, 0, 0];
+    for lower in 1..=8 {
+        for higher in lower + 1..=8 {
+            let mut element = VALID;
+            element[higher - 1] = element[lower - 1];
+            expect_refused(&NODES, element, pair(lower, higher));
+        }
+    }
+    expect_refused(&NODES, [0, 1, 2, 1, 4, 1, 6, 7], pair(2, 4));
+    expect_refused(&NODES, [0, 1, 1, 0, 4, 5, 6, 7], pair(1, 4));
+    expect_refused(&NODES, [11; 8], pair(1, 2));
+    expect_refused(&NODES, [0, 1, 12, 12, 4, 5, 6, 7], [5, 3, 12, 0, 0, 0, 0, 0]);
+    expect_refused(&NODES, [0, 0, 2, 3, 4, 5, 6, 12], [5, 8, 12, 0, 0, 0, 0, 0]);
+    let mut far = NODES;
+    far[7] = 4097;
+    expect_refused(&far, VALID, [6, 3, 2, 0, 0, 0, 0, 0]);
+    expect_refused(&far, [0, 1, 2, 2, 4, 5, 6, 7], pair(3, 4));
+    expect_refused(&far, [0, 1, 2, 3, 4, 5, 6, 6], pair(7, 8));
+}
+
+/// Nodes with different numbers at one point are not named twice.
+#[test]
+fn nodes_at_one_point() {
+    let mut report = [0; 8];
+    let answer = inspect(&[5; 24], &VALID, 3, &mut report);
+    assert_eq!(answer, Inspection { invalid: 1, ..Inspection::default() });
+    assert_eq!(report, [1, 0, 0, 0, 0, 1, 0, 1]);
+    expect_refused(&[5; 24], [0; 8], [7, 1, 2, 0, 0, 0, 0, 0]);
 }
 
 /// A lot of nothing but its label's record and the end.

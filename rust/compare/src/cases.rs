@@ -1,6 +1,6 @@
 //! The worked cases of 01 and the figures of the paper.
 
-use crate::check::only_record;
+use crate::check::report_words;
 use crate::draw::narrow;
 use crate::program::IN_ORDER;
 use crate::question::Question;
@@ -47,7 +47,7 @@ impl Case {
         let (said, printed) = match question {
             Question::Inspect { depth, .. } if *question == self.question(*depth) => {
                 let (_, record) = self.records.iter().find(|(at, _)| at.contains(depth))?;
-                (only_record(words), record.to_vec())
+                (report_words(words), record.to_vec())
             }
             Question::Bounds { depth, points } if *points == self.points => {
                 let (_, low, high) = self.bounds.filter(|(at, ..)| at == depth)?;

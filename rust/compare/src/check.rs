@@ -172,7 +172,8 @@ fn between_depths(lesser: &AtDepth, greater: &AtDepth) -> Option<String> {
 }
 
 /// The verdict as the bounds show it: invalid with high <= 0, valid with
-/// low > 0, undecided otherwise; and a refused element has no bounds.
+/// low > 0, undecided otherwise; and a refused element has no bounds, but the
+/// number that it is refused with.
 fn verdict_and_bounds(at: &AtDepth) -> Option<String> {
     let (number, low, high) = at.bounds;
     let kind = match (number, high <= 0, low > 0) {
@@ -235,6 +236,18 @@ fn mesh_over_depths_fault(
     stamps.or_else(|| elements_over_depths_fault(program, coordinates, indices, &meshes))
 }
 
+/// An element's eight points; or what its indices alone are refused with, which the
+/// bounds service is not given: 5 for one that names no node, else 7 for one in two
+/// places.
+fn points_by_indices(coordinates: &[i32], element: &[u32]) -> Result<[i32; 24], u32> {
+    let points = second::points_of(coordinates, element).ok_or(5u32)?;
+    let again = |place: usize| element[..place].contains(&element[place]);
+    if (1..element.len()).any(again) {
+        return Err(7);
+    }
+    Ok(points)
+}
+
 /// Demand 3 for every element of an accepted mesh, seen at every depth.
 fn elements_over_depths_fault(
     program: &dyn Inspects,
@@ -243,15 +256,17 @@ fn elements_over_depths_fault(
     meshes: &[Inspected],
 ) -> Option<String> {
     indices.chunks_exact(8).enumerate().find_map(|(number, element)| {
-        let points = second::points_of(coordinates, element);
+        let points = points_by_indices(coordinates, element);
         let at_depth = |(depth, mesh): (u32, &Inspected)| AtDepth {
             answer: mesh.answer,
             record: std::array::from_fn(|word| mesh.space.inner()[8 * number + word]),
-            // an index that names no node is refusal 5
-            bounds: points.map_or((5, 0, 0), |points| program.bounds(&points, depth)),
+            bounds: match points {
+                Ok(points) => program.bounds(&points, depth),
+                Err(number) => (number, 0, 0),
+            },
         };
         let seen: Vec<AtDepth> = (0..).zip(meshes).map(at_depth).collect();
-        let what = over_depths_fault(points.as_ref(), &seen)?;
+        let what = over_depths_fault(points.as_ref().ok(), &seen)?;
         Some(format!("element {number} from 0: {what}"))
     })
 }
@@ -359,8 +374,8 @@ pub fn last_record(words: &[i64]) -> [i64; 8] {
     std::array::from_fn(|word| words[last + 5 + word])
 }
 
-/// The report of a mesh of one element, from its words.
-pub fn only_record(words: &[i64]) -> &[i64] {
+/// The report of an accepted mesh, from its words.
+pub fn report_words(words: &[i64]) -> &[i64] {
     &words[ANSWER.len() + FENCE..words.len() - FENCE]
 }
 

@@ -286,15 +286,32 @@ fn bad_index(shaker: &mut Shaker, nodes: usize) -> u32 {
     }
 }
 
-/// Eight indices: eight nodes in a row, often; any nodes; with bad ones.
+/// Eight different nodes of a mesh that has eight.
+fn different_nodes(shaker: &mut Shaker, nodes: usize) -> [u32; 8] {
+    let mut all: Vec<u32> = (0..nodes as u32).collect();
+    std::array::from_fn(|place| {
+        all.swap(place, shaker.between(place as i64, nodes as i64 - 1) as usize);
+        all[place]
+    })
+}
+
+/// Eight indices: eight nodes in a row, often; any different ones; any; with one in
+/// several places; with bad ones.
 pub(crate) fn element_indices(shaker: &mut Shaker, nodes: usize) -> [u32; 8] {
     let blocks = nodes as i64 / 8;
-    let mut indices = if blocks > 0 && !once_in(shaker, 6) {
-        let block = shaker.between(0, blocks - 1) as u32;
-        IN_ORDER.map(|place| 8 * block + place)
-    } else {
-        [0; 8].map(|_| shaker.between(0, nodes.max(1) as i64 - 1) as u32)
+    let mut indices = match shaker.between(0, 11) {
+        2.. if blocks > 0 => {
+            let block = shaker.between(0, blocks - 1) as u32;
+            IN_ORDER.map(|place| 8 * block + place)
+        }
+        1 if blocks > 0 => different_nodes(shaker, nodes),
+        _ => [0; 8].map(|_| shaker.between(0, nodes.max(1) as i64 - 1) as u32),
     };
+    if once_in(shaker, 8) {
+        for _ in 0..shaker.between(1, 3) {
+            indices[shaker.between(0, 7) as usize] = indices[shaker.between(0, 7) as usize];
+        }
+    }
     if once_in(shaker, 8) {
         for _ in 0..shaker.between(1, 3) {
             indices[shaker.between(0, 7) as usize] = bad_index(shaker, nodes);

@@ -1,7 +1,7 @@
 //! The whole side-by-side run.
 
 use crate::cases::{cases, figures, not_as_printed, rounded};
-use crate::check::{ask, last_record, Difference, POINTS_A_LEVEL, STAMPS};
+use crate::check::{ask, last_record, report_words, Difference, POINTS_A_LEVEL, STAMPS};
 use crate::draw::{self, Kind, KINDS};
 use crate::lots::{numbered, Service, NAMING, PRINTING, READING, WRITING};
 use crate::program::{Program, IN_ORDER};
@@ -142,7 +142,7 @@ fn worked_cases(pair: Pair) -> Result<String, Difference> {
     Ok("A to I and the cube from -4,096 to 4,096, at depths 0 to 3".to_string())
 }
 
-fn verdict(record: &[i64; 8]) -> String {
+fn verdict(record: &[i64]) -> String {
     match record[0] {
         0 => format!("valid at level {}", record[1]),
         1 => format!("invalid at level {}", record[1]),
@@ -201,6 +201,54 @@ fn refusals(pair: Pair) -> Result<String, Difference> {
     })?;
     let said = in_words(&tally);
     Ok(format!("{} meshes, those of number 0 {OVER_DEPTHS}, {said}", questions.len()))
+}
+
+/// Every way in which eight places can share nodes: each place has the index of
+/// a place before it, or the next one that none has.
+fn sharings() -> Vec<[u32; 8]> {
+    let mut ways = vec![([0; 8], 0)];
+    for place in 0..8 {
+        let further = |&(indices, used): &([u32; 8], u32)| {
+            (0..=used).map(move |index| {
+                let mut indices = indices;
+                indices[place] = index;
+                (indices, used.max(index + 1))
+            })
+        };
+        ways = ways.iter().flat_map(further).collect();
+    }
+    ways.into_iter().map(|(indices, _)| indices).collect()
+}
+
+/// All of these over case A's nodes, with fewer nodes, and with one out of range,
+/// so that the order of 5, 7 and 6 shows.
+fn shared_nodes(pair: Pair) -> Result<String, Difference> {
+    let cube = cases().swap_remove(0).points;
+    let fewer = (0..=8).map(|count| cube[..3 * count].to_vec());
+    let far = (0..24).map(|at| {
+        let mut coordinates = cube.to_vec();
+        coordinates[at] = 4097;
+        coordinates
+    });
+    let nodes: Vec<Vec<i32>> = fewer.chain(far).collect();
+    let ways = sharings();
+    let tally = on_two_threads(nodes.len(), |turn, tally| {
+        for elements in ways.chunks(1000) {
+            let indices = elements.concat();
+            let words = pair.ask(&Question::Inspect {
+                depth: turn as u32 % 4,
+                space: indices.len(),
+                coordinates: nodes[turn].clone(),
+                indices,
+            })?;
+            for record in report_words(&words).chunks_exact(8) {
+                count(tally, verdict(record));
+            }
+        }
+        Ok(())
+    })?;
+    let said = in_words(&tally);
+    Ok(format!("{} ways over {} runs of nodes, {OVER_DEPTHS}, {said}", ways.len(), nodes.len()))
 }
 
 /// Random meshes with anything wrong in them.
@@ -372,12 +420,13 @@ type Part<'a> = (&'a str, &'a dyn Fn() -> Result<String, Difference>);
 /// Everything, part by part; what each came to is said in a line.
 pub fn run(pair: Pair, plan: Plan, say: &dyn Fn(String)) -> Result<(), Difference> {
     say(format!("seed {}", plan.seed));
-    let parts: [Part; 7] = [
+    let parts: [Part; 8] = [
         ("worked cases", &|| worked_cases(pair)),
         ("figures of the paper", &|| paper_figures(pair)),
         ("address moves", &|| moves(pair, plan)),
         ("stamps", &|| stamps(pair, plan)),
         ("refusals", &|| refusals(pair)),
+        ("shared nodes", &|| shared_nodes(pair)),
         ("random meshes", &|| meshes(pair, plan)),
         ("random elements", &|| elements(pair, plan)),
     ];

@@ -7,7 +7,7 @@ use compare::cases::cases;
 use compare::check::{ask, Difference};
 use compare::lots::Service;
 use compare::program::{
-    Address, Answer, Inspects, Move, Product, Program, Second, Stamp, PRODUCT, SECOND,
+    Address, Answer, Inspects, Move, Product, Program, Second, Stamp, IN_ORDER, PRODUCT, SECOND,
 };
 use compare::question::Question;
 use compare::run::{run, run_service, Pair, Plan};
@@ -56,6 +56,16 @@ faults! {
     RangeOneLess,
     IndexAtTheCount,
     CoordinatesBeforeIndices,
+    // a node named twice
+    PairIsTaken,
+    PairBeforeMissing,
+    PairAfterTheRange,
+    PairWithHighestFirst,
+    PairWithLowestSecond,
+    PairWithHighestSecond,
+    IndexForTheSecondPlace,
+    PlacesFromZero,
+    NodesAtOnePoint,
     // bounds
     LowOffByOne,
     HighOffByOne,
@@ -79,6 +89,20 @@ faults! {
     SaysValid,
     SaysUndecided,
     WritesNothing,
+}
+
+/// The pairs of places, counted from 0, of which something holds: lowest first place
+/// first, then lowest second.
+fn pairs_of(holds: impl Fn(usize, usize) -> bool) -> Vec<(usize, usize)> {
+    let pairs = (0..8).flat_map(|lower| (lower + 1..8).map(move |higher| (lower, higher)));
+    pairs.filter(|&(lower, higher)| holds(lower, higher)).collect()
+}
+
+/// The second program's record of eight different nodes at these points.
+fn record_of_points(points: &[i32; 24], depth: u32) -> [i64; 8] {
+    let mut record = [0; 8];
+    second::inspect(&second::Limits::base(), points, &IN_ORDER, depth, &mut record);
+    record
 }
 
 /// The second program with one fault.
@@ -133,6 +157,58 @@ impl Wrong {
         }
     }
 
+    /// What is spoilt of an element with one index in two places, or with two nodes
+    /// at one point.
+    fn spoil_pair(&self, coordinates: &[i32], element: &[u32], depth: u32, record: &mut [i64]) {
+        let refused_by = |(lower, higher): (usize, usize)| {
+            [7, lower as i64 + 1, higher as i64 + 1, 0, 0, 0, 0, 0]
+        };
+        let pairs = pairs_of(|lower, higher| element[lower] == element[higher]);
+        let points = second::points_of(coordinates, element);
+        match (self.0, record[0], points) {
+            (Fault::PairIsTaken, 7, Some(points)) => {
+                record.copy_from_slice(&record_of_points(&points, depth));
+            }
+            (Fault::PairAfterTheRange, 7, Some(points)) => {
+                let taken = record_of_points(&points, depth);
+                if taken[0] == 6 {
+                    record.copy_from_slice(&taken);
+                }
+            }
+            (Fault::PairBeforeMissing, 5, _) if !pairs.is_empty() => {
+                record.copy_from_slice(&refused_by(pairs[0]));
+            }
+            (Fault::PairWithHighestFirst, 7, _) => {
+                let highest = pairs.iter().rev().max_by_key(|pair| pair.0).expect("a pair");
+                record.copy_from_slice(&refused_by(*highest));
+            }
+            (Fault::PairWithLowestSecond, 7, _) => {
+                let lowest = pairs.iter().min_by_key(|pair| pair.1).expect("a pair");
+                record.copy_from_slice(&refused_by(*lowest));
+            }
+            (Fault::PairWithHighestSecond, 7, _) => {
+                let same = |pair: &&(usize, usize)| pair.0 == pairs[0].0;
+                record
+                    .copy_from_slice(&refused_by(*pairs.iter().rev().find(same).expect("a pair")));
+            }
+            (Fault::IndexForTheSecondPlace, 7, _) => {
+                record[2] = i64::from(element[pairs[0].1]);
+            }
+            (Fault::PlacesFromZero, 7, _) => {
+                record[1] -= 1;
+                record[2] -= 1;
+            }
+            (Fault::NodesAtOnePoint, 0..=2, Some(points)) => {
+                let node = |place: usize| &points[3 * place..3 * place + 3];
+                let at_one_point = pairs_of(|lower, higher| node(lower) == node(higher));
+                if let Some(pair) = at_one_point.first() {
+                    record.copy_from_slice(&refused_by(*pair));
+                }
+            }
+            _ => {}
+        }
+    }
+
     fn spoil_answer(&self, mut answer: Answer) -> Answer {
         if self.0 == Fault::CountsExchanged && answer[1] != answer[3] {
             answer.swap(1, 3);
@@ -169,6 +245,7 @@ impl Inspects for Wrong {
         }
         let nodes = coordinates.len() / 3;
         for (record, element) in report.chunks_exact_mut(8).zip(indices.chunks_exact(8)) {
+            self.spoil_pair(coordinates, element, depth, record);
             match self.0 {
                 Fault::IndexAtTheCount if record[0] == 5 && record[2] == nodes as i64 => {
                     record.copy_from_slice(&[1, 0, 0, 0, 0, 1, 0, 1]);
@@ -334,6 +411,7 @@ enum Unsteady {
     InvalidBecomesValid,
     OpenedGrows,
     RefusalMoves,
+    PairMoves,
     LowFalls,
     HighRises,
     RecordApartFromBounds,
@@ -361,6 +439,7 @@ impl Inspects for Unsteady {
                 (Unsteady::InvalidBecomesValid, 3, 1) => record[0] = 0,
                 (Unsteady::OpenedGrows, 1.., 0 | 1) => record[7] += 1,
                 (Unsteady::RefusalMoves, 3, 5 | 6) => record[1] = 8,
+                (Unsteady::PairMoves, 3, 7) => record[2] = 8,
                 (Unsteady::RecordApartFromBounds, 3, 2) => record[0] = 0,
                 (Unsteady::NotPositive, _, 0..=2) => {
                     record.copy_from_slice(&[0, 0, 0, 0, 0, 0, 0, 1]);
@@ -412,12 +491,13 @@ fn points_of(name: &str) -> [i32; 24] {
     cases().iter().find(|case| case.name == name).expect("a case").points
 }
 
-/// A mesh of 120 elements: the cases A, C, D, F and H, and A with an index past
-/// the nodes, over and over.
+/// A mesh of 140 elements: the cases A, C, D, F and H, A with an index past the
+/// nodes, and A with an index in two places, over and over.
 fn worked_mesh(depth: u32) -> Question {
     let coordinates = ["A", "C", "D", "F", "H"].map(points_of).concat();
     let mut elements: Vec<u32> = (0..40).collect();
     elements.extend([0, 1, 2, 40, 4, 5, 6, 7]);
+    elements.extend([0, 1, 2, 1, 4, 5, 6, 7]);
     let indices = elements.repeat(20);
     Question::Inspect { depth, space: indices.len(), coordinates, indices }
 }
@@ -432,6 +512,7 @@ fn the_rules_over_depths_are_tested() {
         (Unsteady::InvalidBecomesValid, Some("C"), "became"),
         (Unsteady::OpenedGrows, Some("A"), "became"),
         (Unsteady::RefusalMoves, None, "became"),
+        (Unsteady::PairMoves, None, "became"),
         (Unsteady::LowFalls, Some("A"), "64 times low"),
         (Unsteady::HighRises, Some("A"), "64 times the depth before's"),
         (Unsteady::RecordApartFromBounds, Some("F"), "with bounds"),

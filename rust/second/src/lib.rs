@@ -634,6 +634,16 @@ fn first_bad_index(nodes: usize, element: &[u32]) -> Option<(i64, i64)> {
     Some((place as i64 + 1, i64::from(element[place])))
 }
 
+/// 02, No. 5: "One index in two places of an element"; "lowest first place and
+/// then lowest second".  The lower and the higher place, 1..8.
+fn first_pair(element: &[u32]) -> Option<(i64, i64)> {
+    let places = |(before, index): (usize, &u32)| {
+        let between = element[before + 1..].iter().position(|other| other == index)?;
+        Some((before as i64 + 1, (before + between) as i64 + 2))
+    };
+    element.iter().enumerate().find_map(places)
+}
+
 /// "6: a coordinate outside the range"; "lowest place first, then x, y, z".
 /// The place, 1..8, and the axis, 1..3.
 fn first_unusable(limits: &Limits, points: &[i64; 24]) -> Option<(i64, i64)> {
@@ -657,10 +667,13 @@ pub fn points_of(coordinates: &[i32], element: &[u32]) -> Option<[i32; 24]> {
 }
 
 /// The record of one element.  01: "Within an element all eight indices are
-/// tested before any coordinate".
+/// tested before any coordinate"; 02, No. 5: 7 is "tested after 5 and before 6".
 fn element_record(limits: &Limits, coordinates: &[i32], element: &[u32], depth: u32) -> [i64; 8] {
     if let Some((place, index)) = first_bad_index(coordinates.len() / 3, element) {
         return [5, place, index, 0, 0, 0, 0, 0];
+    }
+    if let Some((lower, higher)) = first_pair(element) {
+        return [7, lower, higher, 0, 0, 0, 0, 0];
     }
     let Some(points) = points_of(coordinates, element) else {
         return OUT_OF_REACH; // not met: every index names a node here
@@ -687,7 +700,7 @@ fn counted(mut counts: Inspection, record: &[i64; 8]) -> Inspection {
 /// Inspection of a mesh: a record of 8 words for each element, and the counts.
 ///
 /// 01: refusals 1 to 4 leave the "report space untouched, counts 0"; refusals
-/// 5 and 6 are "that element's record only".
+/// 5 to 7 are "that element's record only".
 pub fn inspect(
     limits: &Limits,
     coordinates: &[i32],

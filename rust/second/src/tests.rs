@@ -522,6 +522,80 @@ fn order_within_an_element() {
     assert_eq!(inspect_one(&points, IN_ORDER, 0).1, [6, 2, 2, 0, 0, 0, 0, 0]);
 }
 
+// ---------------------------------------------------------- named twice --
+
+/// A refusal by 7 of the element with these indices, at every depth.
+#[track_caller]
+fn expect_pair(points: &Points, indices: [u32; 8], lower: i64, higher: i64) {
+    for depth in 0..=3 {
+        let (answer, words) = inspect_one(points, indices, depth);
+        assert_eq!(words, [7, lower, higher, 0, 0, 0, 0, 0]);
+        assert_eq!(answer, counts(0, 0, 0, 1), "it counts among the refused");
+        assert_eq!(stamp(&answer), Some(Stamp::Faulty));
+    }
+}
+
+/// 02, No. 5: "word 1 the lower place, word 2 the higher place".
+#[test]
+fn every_pair_of_places() {
+    for lower in 0..8 {
+        for higher in lower + 1..8 {
+            for (to, from) in [(lower, higher), (higher, lower)] {
+                let mut indices = IN_ORDER;
+                indices[to] = indices[from];
+                expect_pair(&case('A'), indices, lower as i64 + 1, higher as i64 + 1);
+            }
+        }
+    }
+}
+
+/// "lowest first place and then lowest second"
+#[test]
+fn the_lowest_of_several_pairs() {
+    // three of one index, at any three places
+    for a in 0..8 {
+        for b in a + 1..8 {
+            for c in b + 1..8 {
+                let mut indices = IN_ORDER;
+                (indices[a], indices[b]) = (indices[c], indices[c]);
+                expect_pair(&case('A'), indices, a as i64 + 1, b as i64 + 1);
+            }
+        }
+    }
+    expect_pair(&case('A'), [0, 1, 1, 0, 4, 5, 6, 7], 1, 4);
+    expect_pair(&case('A'), [0, 1, 2, 2, 1, 0, 6, 7], 1, 6);
+    expect_pair(&case('A'), [0, 1, 0, 1, 4, 5, 6, 7], 1, 3);
+    for index in 0..8 {
+        expect_pair(&case('A'), [index; 8], 1, 2);
+    }
+}
+
+/// 7 is "tested after 5 and before 6".
+#[test]
+fn a_pair_after_a_missing_node_and_before_the_range() {
+    let missing = [0, 1, 8, 8, 4, 5, 6, 7];
+    assert_eq!(inspect_one(&case('A'), missing, 0).1, [5, 3, 8, 0, 0, 0, 0, 0]);
+    let missing_last = [0, 0, 2, 3, 4, 5, 6, u32::MAX];
+    assert_eq!(inspect_one(&case('A'), missing_last, 0).1, [5, 8, 4_294_967_295, 0, 0, 0, 0, 0]);
+    let mut far = case('A');
+    far[0] = 4097;
+    expect_pair(&far, [0, 0, 2, 3, 4, 5, 6, 7], 1, 2);
+    expect_pair(&far, [0, 1, 2, 3, 4, 5, 6, 6], 7, 8);
+    assert_eq!(inspect_one(&far, IN_ORDER, 0).1, [6, 1, 1, 0, 0, 0, 0, 0]);
+}
+
+/// Two nodes with different numbers at one point are not 7: case B has eight.
+#[test]
+fn nodes_at_one_point_are_not_named_twice() {
+    let b = case('B');
+    expect_pair(&b, [0, 1, 2, 3, 4, 5, 6, 0], 1, 8);
+    assert_eq!(inspect_one(&b, IN_ORDER, 0).1, [1, 0, 0, 0, 0, 1, 0, 1]);
+    let mut two = case('A');
+    two.copy_within(..3, 21);
+    let kinds = [0, 1, 2, 3].map(|depth| inspect_one(&two, IN_ORDER, depth).1[0]);
+    assert!(kinds.iter().all(|kind| *kind < 3));
+}
+
 /// "It refuses with 1 and then 6 and no other, by number alone, and both
 /// bounds are then 0."
 #[test]
@@ -552,7 +626,7 @@ fn no_word_is_left_from_before() {
         let mut coordinates: Vec<i32> = Vec::new();
         let mut indices: Vec<u32> = Vec::new();
         let mut expected: Vec<i64> = Vec::new();
-        let mut tally = [0u32; 7];
+        let mut tally = [0u32; 8];
         for element in 0..40u32 {
             let mut points = match shaker.between(0, 3) {
                 0 => worked()[shaker.between(0, 6) as usize].1,
@@ -560,7 +634,7 @@ fn no_word_is_left_from_before() {
             };
             let mut names = IN_ORDER.map(|n| n + 8 * element);
             let mut words = record(&points, depth);
-            match shaker.between(0, 5) {
+            match shaker.between(0, 6) {
                 0 => {
                     let place = shaker.between(0, 7) as usize;
                     names[place] = 320 + shaker.between(0, 1 << 31) as u32;
@@ -571,6 +645,11 @@ fn no_word_is_left_from_before() {
                     points[at as usize] = shaker.between(4097, 1 << 30);
                     words = [6, at / 3 + 1, at % 3 + 1, 0, 0, 0, 0, 0];
                 }
+                2 => {
+                    let (lower, higher) = (shaker.between(0, 6), 7);
+                    names[lower as usize] = names[higher as usize];
+                    words = [7, lower + 1, higher + 1, 0, 0, 0, 0, 0];
+                }
                 _ => {}
             }
             coordinates.extend(narrow(&points));
@@ -580,8 +659,8 @@ fn no_word_is_left_from_before() {
         }
         let answer = inspect(&limits, &coordinates, &indices, depth, &mut report);
         assert_eq!(report, expected);
-        assert_eq!(answer, counts(tally[0], tally[1], tally[2], tally[5] + tally[6]));
-        let faulty = tally[1] + tally[5] + tally[6] > 0;
+        assert_eq!(answer, counts(tally[0], tally[1], tally[2], tally[5] + tally[6] + tally[7]));
+        let faulty = tally[1] + tally[5] + tally[6] + tally[7] > 0;
         assert_eq!(stamp(&answer) == Some(Stamp::Faulty), faulty);
         assert_eq!(stamp(&answer), Some(stamp_of_report(&report)));
     }

@@ -51,6 +51,12 @@ enum-known-fault-2 c = search needs
 fault-words-requires-2 : tie.Need-fault-words-requires-2
 fault-words-requires-2 c κs = search needs
 
+enum-known-fault-3 : tie.Need-enum-known-fault-3
+enum-known-fault-3 c = search needs
+
+fault-words-requires-3 : tie.Need-fault-words-requires-3
+fault-words-requires-3 c κs = search needs
+
 returns : tie.Need-returns
 returns c =
     let e = c .before .before in
@@ -71,6 +77,13 @@ returns-3 c =
     c .fault-words2 .ensures
     ∙ sym (element-fault base (now (s .args .coordinates)) (now (s .args .ix)) (s .args .depth) _ (sym (f .before .before .fault .ensures .0) ∙ ap elementOf (f .fault3 .given .1)))
 
+returns-4 : tie.Need-returns-4
+returns-4 c =
+    let f = c .before .before in
+    let s = f .before .before .before .before .before in
+    c .fault-words3 .ensures
+    ∙ sym (element-fault base (now (s .args .coordinates)) (now (s .args .ix)) (s .args .depth) _ (sym (f .before .before .fault .ensures .0) ∙ ap elementOf (f .fault4 .given .1)))
+
 pub element-spec : {M : Type 1} → statement M
 element-spec =
     tie.close
@@ -82,6 +95,9 @@ element-spec =
     fault-words-requires
     enum-known-fault-2
     fault-words-requires-2
+    enum-known-fault-3
+    fault-words-requires-3
     returns
     returns-2
-    returns-3)
+    returns-3
+    returns-4)

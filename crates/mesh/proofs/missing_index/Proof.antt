@@ -6,8 +6,7 @@ use borrow.Author.Needs.{needs}
 use borrow.Author.Tests.{le-leb, lt-leb}
 use lib.Dec.{leb}
 use lib.ListN.{getD}
-use Rattle.definitions.specs.Mesh.{firstFrom}
-use Rattle.mesh.specs.Meaning.{missingIndex}
+use Rattle.definitions.specs.Mesh.{firstFrom, missingIndex}
 use Rattle.mesh.specs.Search.{first-here, first-later, first-over}
 use Rattle.mesh.proofs.missing_index.Statement.{statement}
 use Rattle.mesh.proofs.missing_index.Tie as tie

@@ -36,7 +36,7 @@ fn record(kind: &str) -> String {
 
 /// All but 27: "The program never lacks room."
 fn needed() -> Vec<String> {
-    let records = ["0", "1", "2", "5", "6"].map(record);
+    let records = ["0", "1", "2", "5", "6", "7"].map(record);
     let stamps = ["stamp sound", "stamp faulty", "stamp open"].map(str::to_string);
     all_numbered(20..=26).into_iter().chain(records).chain(stamps).collect()
 }
@@ -133,6 +133,26 @@ fn digits() -> Vec<Question> {
     indices.map(|index| question(&Lot::new(b"", &[], &[[index; 8]]))).collect()
 }
 
+/// Every pair of places with one index: all pairs in one lot, and one lot of each.
+fn named_twice() -> Vec<Question> {
+    let a = cases().swap_remove(0);
+    let pairs = (0..8).flat_map(|lower| (lower + 1..8).map(move |higher| (lower, higher)));
+    let elements = pairs.map(|(lower, higher)| {
+        let mut indices = a.indices;
+        indices[higher] = indices[lower];
+        indices
+    });
+    let elements: Vec<[u32; 8]> = elements.collect();
+    let lots = elements.chunks(1).chain([&elements[..]]);
+    let lot = |elements: &[[u32; 8]]| Lot {
+        label: b"pairs".to_vec(),
+        nodes: a.points.to_vec(),
+        elements: elements.concat(),
+        ..Lot::default()
+    };
+    lots.map(|elements| question(&lot(elements))).collect()
+}
+
 /// Lots with each choice of a valid, an invalid, an undecided and a refused element;
 /// and one refused among valid ones.
 fn stamped() -> Vec<Question> {
@@ -155,6 +175,7 @@ fn listed() -> Corpora {
         ("examples and worked cases", worked),
         ("every stamp", stamped),
         ("every refusal", refused),
+        ("every pair of places", named_twice),
         ("numbers of all lengths", digits),
         ("up to 1,000 elements", long),
         ("prefixes and byte changes of one", changed),
