@@ -21,10 +21,10 @@ module _ (ix : List ℕ) where
   pair-of : (i j : ℕ) → j < 8 → sameIndex ix (8 * i + j) ≡ (ltb i j && eqb (at i) (at j))
   pair-of i j h = let p : (8 * i + j) / 8 ≡ i = omega arith in let q : (8 * i + j) % 8 ≡ j = omega arith in (λ t. ltb (p t) (q t) && eqb (at (p t)) (at (q t)))
 
-  pub pair-same : (i j : ℕ) → i < j → j < 8 → at i ≡ at j → sameIndex ix (8 * i + j) ≡ true
+  pair-same : (i j : ℕ) → i < j → j < 8 → at i ≡ at j → sameIndex ix (8 * i + j) ≡ true
   pair-same i j l h e = rw (pair-of i j h, lt-ltb i j l, eq-eqb _ _ e)
 
-  pub pair-differs : (i j : ℕ) → j < 8 → (at i ≡ at j → ⊥) → sameIndex ix (8 * i + j) ≡ false
+  pair-differs : (i j : ℕ) → j < 8 → (at i ≡ at j → ⊥) → sameIndex ix (8 * i + j) ≡ false
   pair-differs i j h d = rw (pair-of i j h, ne-eqb _ _ d, and-false)
 
   -- its second place comes after its first

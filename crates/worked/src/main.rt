@@ -1,6 +1,33 @@
 // Inspects the worked elements of the scope document, and one with an index in three places, and prints their records and bounds at every depth.
 use inspector::Bounds;
 
+const UNIT_CUBE: [i32; 24] = [
+    0,
+    0,
+    0,
+    1,
+    0,
+    0,
+    1,
+    1,
+    0,
+    0,
+    1,
+    0,
+    0,
+    0,
+    1,
+    1,
+    0,
+    1,
+    1,
+    1,
+    1,
+    0,
+    1,
+    1,
+];
+
 // A number with its sign.
 fn print_signed(w: i64) {
     if w < 0 {
@@ -88,36 +115,7 @@ fn main() {
         1,
         b"times 8 * 64^level; cells opened. Both bounds are times 8 * 64^depth.\n\n",
     );
-    print_element(
-        b"A  unit cube",
-        [
-            0,
-            0,
-            0,
-            1,
-            0,
-            0,
-            1,
-            1,
-            0,
-            0,
-            1,
-            0,
-            0,
-            0,
-            1,
-            1,
-            0,
-            1,
-            1,
-            1,
-            1,
-            0,
-            1,
-            1,
-        ],
-        [0, 1, 2, 3, 4, 5, 6, 7],
-    );
+    print_element(b"A  unit cube", UNIT_CUBE, [0, 1, 2, 3, 4, 5, 6, 7]);
     print_element(
         b"B  all eight nodes at one point",
         [
@@ -360,62 +358,12 @@ fn main() {
     );
     print_element(
         b"I  unit cube with its fourth index 8",
-        [
-            0,
-            0,
-            0,
-            1,
-            0,
-            0,
-            1,
-            1,
-            0,
-            0,
-            1,
-            0,
-            0,
-            0,
-            1,
-            1,
-            0,
-            1,
-            1,
-            1,
-            1,
-            0,
-            1,
-            1,
-        ],
+        UNIT_CUBE,
         [0, 1, 2, 8, 4, 5, 6, 7],
     );
     print_element(
         b"   unit cube with index 1 in places 2, 4 and 6 (02, No. 5)",
-        [
-            0,
-            0,
-            0,
-            1,
-            0,
-            0,
-            1,
-            1,
-            0,
-            0,
-            1,
-            0,
-            0,
-            0,
-            1,
-            1,
-            0,
-            1,
-            1,
-            1,
-            1,
-            0,
-            1,
-            1,
-        ],
+        UNIT_CUBE,
         [0, 1, 2, 1, 4, 1, 6, 7],
     );
 }
