@@ -13,8 +13,8 @@
  * - Every length is a number of ELEMENTS of the array: of bytes only for an array
  *   of uint8_t, never for one of int32_t, uint32_t or int64_t.
  * - Nothing has to be checked before a call. Wrong depths, wrong lengths,
- *   indices that name no node, indices named twice, coordinates outside the range
- *   and files of any bytes are answered with their number, as below.
+ *   indices that name no node, nodes named twice in an element, coordinates outside
+ *   the range and files of any bytes are answered with their number, as below.
  * - All memory is the caller's. The library keeps no pointer after a call,
  *   allocates nothing, holds no state and may be called from several threads
  *   at once. Only lent space is written: the report of an inspection, the nodes,
@@ -65,10 +65,10 @@ typedef struct {
  *
  *   word     valid    invalid                undecided               refused
  *   0        0        1                      2                       5, 6 or 7
- *   1        level    level                  depth                   place 1..8
+ *   1        level    level                  depth                   place 1..8 (7: the lower)
  *   2, 3, 4  0        a, b, c of the point   a, b, c of the cube     5: the index, 0, 0
  *                                                                    6: axis 1..3, 0, 0
- *                                                                    7: place 1..8, 0, 0
+ *                                                                    7: higher place, 0, 0
  *   5        0        corner number          coefficient number      0
  *   6        0        J times 8*64^level     the coefficient times   0
  *                                            8*64^depth

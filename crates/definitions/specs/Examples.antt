@@ -96,7 +96,7 @@ unfolding jacobian held numbered at coefficients halve child children whole corn
 starred-hold = ((refl, tt), ((refl, tt), ((refl, tt), ((refl, tt), ((refl, refl), ((refl, tt), ((refl, tt), ((refl, tt), ((refl, tt), ((refl, tt), ((refl, tt), ((refl, tt), tt))))))))))))
 
 -- ---- 02, No. 5: one index in two places, as a single list under the same claim
--- the unit cube's nodes with one index instead of another
+-- index 1 in three places
 abbrev pub threeOfOne : List ℕ
 threeOfOne = 0 ∷ 1 ∷ 2 ∷ 1 ∷ 4 ∷ 1 ∷ 6 ∷ 7 ∷ []
 
@@ -110,6 +110,7 @@ missingTwice = 0 ∷ 1 ∷ 8 ∷ 8 ∷ 4 ∷ 5 ∷ 6 ∷ 7 ∷ []
 abbrev pub missingAfterPair : List ℕ
 missingAfterPair = 0 ∷ 0 ∷ 2 ∷ 3 ∷ 4 ∷ 5 ∷ 6 ∷ 8 ∷ []
 
+-- index 2, which names the node of H that is out of range, twice; and a pair behind that node
 abbrev pub thirdTwice : List ℕ
 thirdTwice = 0 ∷ 1 ∷ 2 ∷ 2 ∷ 4 ∷ 5 ∷ 6 ∷ 7 ∷ []
 

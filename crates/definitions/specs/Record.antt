@@ -28,7 +28,7 @@ pub data Fault : Type 0 where
   twice : (lower higher : ℕ) → Fault
   outside : (place axis : ℕ) → Fault
 
--- the column "refused"; 7 is 02's, No. 5
+-- the column "refused"; 02, No. 5: "word 0 is 7, word 1 the lower place, word 2 the higher place …, all else 0"
 abbrev pub faultWords : Fault → List ℤ
 faultWords (missing p i) = words 5 p i 0 0 0 (pos 0) 0
 faultWords (twice p q) = words 7 p q 0 0 0 (pos 0) 0

@@ -1,10 +1,10 @@
 -- What follows of a mesh that is accepted, of an element that is not refused and of points within the limits, at any limits.
 -- Assumes nothing.
-use mathlib.Core.Path.{_≡_, refl, sym, _∙_, ap}
+use mathlib.Core.Path.{_≡_, refl, sym, _∙_, ap, subst}
 use mathlib.Core.Bool.{Bool, true, false, not, and-eq-true-iff}
 use mathlib.Core.List.{List}
 use mathlib.Core.Option.{Option, none, some}
-use Prim.Native.Nat.{ℕ, suc, _+_, _*_, _/_, _%_, _<_, _≤_}
+use Prim.Native.Nat.{ℕ, suc, _+_, _*_, _-_, _/_, _%_, _<_, _≤_}
 use native.Mathlib.Numerals.{add-one}
 use native.Mathlib.Omega.{arith}
 use borrow.Author.Tests.{not-false, ltb-false, leb-true, leb-false, eqb-true}
@@ -16,9 +16,9 @@ use Rattle.foundation.specs.Words.{Within, within}
 use Rattle.definitions.specs.Limits.{Limits}
 use Rattle.definitions.specs.Record.{Fault, missing, twice, outside}
 use Rattle.definitions.specs.Mesh.{Refusal, depthTooGreat, badCoordinates, badIndices, badSpace, wellSized, refusal, missingIndex, namedTwice, usable, pointsOf, outOfRange, faultOf}
-use Rattle.mesh.specs.Meaning.{pointsAfter}
+use Rattle.mesh.specs.Meaning.{pointsAfter, refusedWords}
 use Rattle.mesh.specs.Search.{never, first-below, first-none}
-use Rattle.mesh.specs.Pairs.{distinct}
+use Rattle.mesh.specs.Pairs.{LowestPair, lowest-pair, distinct}
 
 -- ---- which meshes are refused, by the four tests
 abbrev pub refusalBy : Bool → Bool → Bool → Bool → Option Refusal
@@ -130,6 +130,22 @@ faultBy-none ix none none (some k) e = never e
 faultBy-none ix none (some k) o e = never e
 faultBy-none ix (some k) t o e = never e
 
+-- a word of its record
+abbrev pub word : ℕ → Option Fault → ℕ
+word k o = natAbs (getD (refusedWords o) k (pos 0))
+
+-- the pair that refuses it
+faultBy-twice : (ix : List ℕ) (m t o : Option ℕ) (p q : ℕ) → faultBy ix m t o ≡ some (twice p q) → namedTwice ix ≡ t → (1 ≤ p) × LowestPair ix (p - 1) (q - 1)
+faultBy-twice ix none none none p q e n = never (sym e)
+faultBy-twice ix none none (some k) p q e n = let z : _≡_ {A = ℕ} 6 7 = ap (word 0) e in absurd (omega arith)
+faultBy-twice ix none (some k) o p q e n =
+    let lower : suc (k / 8) ≡ p = ap (word 1) e in
+    let higher : suc (k % 8) ≡ q = ap (word 2) e in
+    let i : k / 8 ≡ p - 1 = omega arith in
+    let j : k % 8 ≡ q - 1 = omega arith in
+    (omega arith, subst (λ (z : ℕ × ℕ). LowestPair ix (z .0) (z .1)) (λ t. (i t, j t)) (lowest-pair ix k n))
+faultBy-twice ix (some k) t o p q e n = let z : _≡_ {A = ℕ} 5 7 = ap (word 0) e in absurd (omega arith)
+
 -- where its points go
 module _ (coordinates : List ℤ) (ix : List ℕ) (before : List ℤ) where
   abbrev placed : Option ℕ → List ℤ
@@ -172,6 +188,18 @@ module _ (L : Limits) (coordinates : List ℤ) (ix : List ℕ) where
       let found = faultBy-none ix (missingIndex (length coordinates / 3) ix) (namedTwice ix) (outOfRange L (pointsOf coordinates ix)) (sym fault-by ∙ e) in
       record { named = found .0; once = found .1; points = found .2 }
 
-  -- an element that is not refused has eight different nodes
+  -- refusal 7 names two places with one index, and no pair comes before them
+  pub refused-pair : (p q : ℕ) → faultOf L coordinates ix ≡ some (twice p q) → (1 ≤ p) × LowestPair ix (p - 1) (q - 1)
+  refused-pair p q e = faultBy-twice ix (missingIndex (length coordinates / 3) ix) (namedTwice ix) (outOfRange L (pointsOf coordinates ix)) p q (sym fault-by ∙ e) refl
+
+  -- one index in two places is refused with 7 wherever no node is missing
+  pub pair-refused : missingIndex (length coordinates / 3) ix ≡ none → (a b : ℕ) → a < b → b < 8 → getD ix a 0 ≡ getD ix b 0 → word 0 (faultOf L coordinates ix) ≡ 7
+  pair-refused m a b l h e = go (namedTwice ix) refl
+    where
+      go : (t : Option ℕ) → namedTwice ix ≡ t → word 0 (faultOf L coordinates ix) ≡ 7
+      go none n = absurd (distinct ix n a b l h e)
+      go (some k) n = ap (word 0) (fault-twice k m n)
+
+  -- so an element that is not refused has eight different nodes
   pub distinct-nodes : faultOf L coordinates ix ≡ none → (a b : ℕ) → a < b → b < 8 → getD ix a 0 ≡ getD ix b 0 → ⊥
   distinct-nodes e = distinct ix (whole-element e .once)

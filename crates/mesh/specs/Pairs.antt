@@ -27,7 +27,7 @@ module _ (ix : List ℕ) where
   pair-differs : (i j : ℕ) → j < 8 → (at i ≡ at j → ⊥) → sameIndex ix (8 * i + j) ≡ false
   pair-differs i j h d = rw (pair-of i j h, ne-eqb _ _ d, and-false)
 
-  -- its second place comes after its first
+  -- no pair where the second place is not after the first
   pair-back : (i j : ℕ) → j ≤ i → j < 8 → sameIndex ix (8 * i + j) ≡ false
   pair-back i j l h = rw (pair-of i j h, le-ltb i j l)
 

@@ -32,7 +32,7 @@ pub enum Checked {
     BadSpace,
 }
 
-// The first of a row of numbers that is not as it should be, counted from 0.
+// The first of a row of numbers, or of pairs of places, that is not as it should be, counted from 0.
 pub enum First {
     At(u32),
     Nothing,
@@ -105,7 +105,7 @@ fn missing_index(nodes: usize, ix: &[u32]) -> First
     First::Nothing
 }
 
-// Of the pairs of an element's places with this first place, counted as the definitions count them, the first with one index.
+// Of the pairs of places whose first is `first`, counted from 0, the first with one index; pair 8·i + j is of the places i and j.
 fn same_after(ix: &[u32], first: usize) -> First
     requires { ⌜ length (now ix) ≡ 8 ⌝ }
     requires { ⌜ first < 8 ⌝ }
@@ -121,7 +121,7 @@ fn same_after(ix: &[u32], first: usize) -> First
     First::Nothing
 }
 
-// The first pair of an element's places with one index.
+// The first pair of an element's places with one index, counted likewise.
 fn named_twice(ix: &[u32]) -> First
     requires { ⌜ length (now ix) ≡ 8 ⌝ }
     ensures { λ r. ⌜ firstOf r ≡ namedTwice (now (ix .entry)) ⌝ }
@@ -167,7 +167,7 @@ fn gather(coordinates: &[i32], ix: &[u32], p: &mut [i32; 24])
 }
 
 // Why an element is refused, if it is: a missing node goes before a node named twice, and this before a coordinate out of range.
-// Where all eight indices name nodes, p has the points.
+// Where all eight indices name nodes, p has the points, and both other searches are made before either's answer is used.
 pub fn fault(coordinates: &[i32], ix: &[u32], p: &mut [i32; 24]) -> Element
     requires { ⌜ length (now ix) ≡ 8 ⌝ }
     requires { ⌜ length (now p) ≡ 24 ⌝ }

@@ -1,4 +1,4 @@
-// Inspects the worked elements of the scope document, and one with an index in three places, and prints their records and bounds at every depth.
+// Inspects the worked elements of the scope document, and one that names a node three times, and prints their records and bounds at every depth.
 use inspector::Bounds;
 
 const UNIT_CUBE: [i32; 24] = [
@@ -362,7 +362,7 @@ fn main() {
         [0, 1, 2, 8, 4, 5, 6, 7],
     );
     print_element(
-        b"   unit cube with index 1 in places 2, 4 and 6 (02, No. 5)",
+        b"No. 5 of 02: unit cube with index 1 in places 2, 4 and 6; the bounds are of its eight nodes in order",
         UNIT_CUBE,
         [0, 1, 2, 1, 4, 1, 6, 7],
     );

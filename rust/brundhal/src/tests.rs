@@ -111,8 +111,8 @@ fn stamps_of_lots() {
     }
 }
 
-/// The record of one element over `NODES`, the same at every depth and over any old
-/// words; it counts among the refused.
+/// The record of one element over these nodes, the same at every depth and over any
+/// old words; it counts among the refused.
 #[track_caller]
 fn expect_refused(nodes: &[i32], element: [u32; 8], words: [i64; 8]) {
     for depth in 0..=3 {

@@ -172,8 +172,8 @@ fn between_depths(lesser: &AtDepth, greater: &AtDepth) -> Option<String> {
 }
 
 /// The verdict as the bounds show it: invalid with high <= 0, valid with
-/// low > 0, undecided otherwise; and a refused element has no bounds, but the
-/// number that it is refused with.
+/// low > 0, undecided otherwise; a refused element has the number that it is refused
+/// with in their place.
 fn verdict_and_bounds(at: &AtDepth) -> Option<String> {
     let (number, low, high) = at.bounds;
     let kind = match (number, high <= 0, low > 0) {
@@ -236,9 +236,9 @@ fn mesh_over_depths_fault(
     stamps.or_else(|| elements_over_depths_fault(program, coordinates, indices, &meshes))
 }
 
-/// An element's eight points; or what its indices alone are refused with, which the
-/// bounds service is not given: 5 for one that names no node, else 7 for one in two
-/// places.
+/// An element's eight points; or the number that its indices alone are refused with
+/// (the bounds service is handed no indices): 5 for one that names no node, else 7 for
+/// one in two places.
 fn points_by_indices(coordinates: &[i32], element: &[u32]) -> Result<[i32; 24], u32> {
     let points = second::points_of(coordinates, element).ok_or(5u32)?;
     let again = |place: usize| element[..place].contains(&element[place]);
@@ -262,7 +262,7 @@ fn elements_over_depths_fault(
             record: std::array::from_fn(|word| mesh.space.inner()[8 * number + word]),
             bounds: match points {
                 Ok(points) => program.bounds(&points, depth),
-                Err(number) => (number, 0, 0),
+                Err(refusal) => (refusal, 0, 0),
             },
         };
         let seen: Vec<AtDepth> = (0..).zip(meshes).map(at_depth).collect();

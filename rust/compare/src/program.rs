@@ -107,6 +107,12 @@ pub trait Prints: Sync {
 /// The indices of an element that has eight nodes of its own.
 pub const IN_ORDER: [u32; 8] = [0, 1, 2, 3, 4, 5, 6, 7];
 
+/// The 28 pairs of an element's places, counted from 0: lowest first place first, then
+/// lowest second.
+pub fn pairs_of_places() -> impl Iterator<Item = (usize, usize)> {
+    (0..8).flat_map(|lower| (lower + 1..8).map(move |higher| (lower, higher)))
+}
+
 /// What lies in lent space before a call: no word of any record, so that a word
 /// that was not written shows.
 pub const PATTERN: i64 = 0x5A5A_A5A5_DEAD_0001;

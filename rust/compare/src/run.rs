@@ -220,8 +220,8 @@ fn sharings() -> Vec<[u32; 8]> {
     ways.into_iter().map(|(indices, _)| indices).collect()
 }
 
-/// All of these over case A's nodes, with fewer nodes, and with one out of range,
-/// so that the order of 5, 7 and 6 shows.
+/// All of these over case A's nodes, with fewer nodes, and with one coordinate out of
+/// range, so that the order of 5, 7 and 6 shows.
 fn shared_nodes(pair: Pair) -> Result<String, Difference> {
     let cube = cases().swap_remove(0).points;
     let fewer = (0..=8).map(|count| cube[..3 * count].to_vec());
@@ -247,6 +247,10 @@ fn shared_nodes(pair: Pair) -> Result<String, Difference> {
         }
         Ok(())
     })?;
+    assert_eq!(ways.len(), 4140, "as many as a set of eight has partitions");
+    for number in [5, 6, 7] {
+        assert!(tally.contains_key(&verdict(&[number])), "no element was refused with {number}");
+    }
     let said = in_words(&tally);
     Ok(format!("{} ways over {} runs of nodes, {OVER_DEPTHS}, {said}", ways.len(), nodes.len()))
 }

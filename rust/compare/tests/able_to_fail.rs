@@ -7,11 +7,13 @@ use compare::cases::cases;
 use compare::check::{ask, Difference};
 use compare::lots::Service;
 use compare::program::{
-    Address, Answer, Inspects, Move, Product, Program, Second, Stamp, IN_ORDER, PRODUCT, SECOND,
+    pairs_of_places, Address, Answer, Inspects, Move, Product, Program, Second, Stamp, IN_ORDER,
+    PRODUCT, SECOND,
 };
 use compare::question::Question;
 use compare::run::{run, run_service, Pair, Plan};
 use second::lot::{Groups, Lot};
+use std::cmp::Reverse;
 use std::fmt::Debug;
 
 /// What can be wrong, and the list of all of it.
@@ -91,11 +93,9 @@ faults! {
     WritesNothing,
 }
 
-/// The pairs of places, counted from 0, of which something holds: lowest first place
-/// first, then lowest second.
+/// The pairs of places of which something holds.
 fn pairs_of(holds: impl Fn(usize, usize) -> bool) -> Vec<(usize, usize)> {
-    let pairs = (0..8).flat_map(|lower| (lower + 1..8).map(move |higher| (lower, higher)));
-    pairs.filter(|&(lower, higher)| holds(lower, higher)).collect()
+    pairs_of_places().filter(|&(lower, higher)| holds(lower, higher)).collect()
 }
 
 /// The second program's record of eight different nodes at these points.
@@ -103,6 +103,14 @@ fn record_of_points(points: &[i32; 24], depth: u32) -> [i64; 8] {
     let mut record = [0; 8];
     second::inspect(&second::Limits::base(), points, &IN_ORDER, depth, &mut record);
     record
+}
+
+/// Where a record of this kind is counted in an answer.
+fn counted(kind: i64) -> usize {
+    match kind {
+        0..=2 => kind as usize + 1,
+        _ => 4,
+    }
 }
 
 /// The second program with one fault.
@@ -179,7 +187,8 @@ impl Wrong {
                 record.copy_from_slice(&refused_by(pairs[0]));
             }
             (Fault::PairWithHighestFirst, 7, _) => {
-                let highest = pairs.iter().rev().max_by_key(|pair| pair.0).expect("a pair");
+                let highest =
+                    pairs.iter().max_by_key(|pair| (pair.0, Reverse(pair.1))).expect("a pair");
                 record.copy_from_slice(&refused_by(*highest));
             }
             (Fault::PairWithLowestSecond, 7, _) => {
@@ -236,7 +245,7 @@ impl Inspects for Wrong {
         }
         let before = report.to_vec();
         let answer = second::inspect(&self.limits(), coordinates, indices, depth, report);
-        let answer =
+        let mut answer =
             [answer.number, answer.valid, answer.invalid, answer.undecided, answer.refused];
         if answer[0] == 0 {
             self.spoil_report(&before, report, depth);
@@ -245,7 +254,12 @@ impl Inspects for Wrong {
         }
         let nodes = coordinates.len() / 3;
         for (record, element) in report.chunks_exact_mut(8).zip(indices.chunks_exact(8)) {
+            let kind = record[0];
             self.spoil_pair(coordinates, element, depth, record);
+            if record[0] != kind {
+                answer[counted(kind)] -= 1;
+                answer[counted(record[0])] += 1;
+            }
             match self.0 {
                 Fault::IndexAtTheCount if record[0] == 5 && record[2] == nodes as i64 => {
                     record.copy_from_slice(&[1, 0, 0, 0, 0, 1, 0, 1]);
@@ -412,6 +426,7 @@ enum Unsteady {
     OpenedGrows,
     RefusalMoves,
     PairMoves,
+    PairToldAsRange,
     LowFalls,
     HighRises,
     RecordApartFromBounds,
@@ -440,6 +455,7 @@ impl Inspects for Unsteady {
                 (Unsteady::OpenedGrows, 1.., 0 | 1) => record[7] += 1,
                 (Unsteady::RefusalMoves, 3, 5 | 6) => record[1] = 8,
                 (Unsteady::PairMoves, 3, 7) => record[2] = 8,
+                (Unsteady::PairToldAsRange, _, 7) => record[0] = 6,
                 (Unsteady::RecordApartFromBounds, 3, 2) => record[0] = 0,
                 (Unsteady::NotPositive, _, 0..=2) => {
                     record.copy_from_slice(&[0, 0, 0, 0, 0, 0, 0, 1]);
@@ -513,6 +529,7 @@ fn the_rules_over_depths_are_tested() {
         (Unsteady::OpenedGrows, Some("A"), "became"),
         (Unsteady::RefusalMoves, None, "became"),
         (Unsteady::PairMoves, None, "became"),
+        (Unsteady::PairToldAsRange, None, "with bounds"),
         (Unsteady::LowFalls, Some("A"), "64 times low"),
         (Unsteady::HighRises, Some("A"), "64 times the depth before's"),
         (Unsteady::RecordApartFromBounds, Some("F"), "with bounds"),

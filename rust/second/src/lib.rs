@@ -1,6 +1,7 @@
 //! A second, plain program for the inspection of trilinear hexahedra.
 //!
-//! It answers what the scope document (01) asks, by sampling alone: J is taken
+//! It answers what the scope document (01) asks, and 02 where a request of it changed
+//! an answer (the stamp, refusal 7), by sampling alone: J is taken
 //! from the partial derivatives of the mapping at grid points, the 27 Bezier
 //! coefficients of a cube are fitted to 27 samples, and every cube of every
 //! level up to the depth is looked at.  Nothing is searched or left out, so

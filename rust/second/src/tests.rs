@@ -590,10 +590,10 @@ fn nodes_at_one_point_are_not_named_twice() {
     let b = case('B');
     expect_pair(&b, [0, 1, 2, 3, 4, 5, 6, 0], 1, 8);
     assert_eq!(inspect_one(&b, IN_ORDER, 0).1, [1, 0, 0, 0, 0, 1, 0, 1]);
+    // node 8 at node 1's point: the edges from node 4 to 1 and to 8 lie in one line
     let mut two = case('A');
     two.copy_within(..3, 21);
-    let kinds = [0, 1, 2, 3].map(|depth| inspect_one(&two, IN_ORDER, depth).1[0]);
-    assert!(kinds.iter().all(|kind| *kind < 3));
+    assert_eq!(inspect_one(&two, IN_ORDER, 0).1, [1, 0, 0, 1, 0, 4, 0, 1]);
 }
 
 /// "It refuses with 1 and then 6 and no other, by number alone, and both
@@ -646,7 +646,8 @@ fn no_word_is_left_from_before() {
                     words = [6, at / 3 + 1, at % 3 + 1, 0, 0, 0, 0, 0];
                 }
                 2 => {
-                    let (lower, higher) = (shaker.between(0, 6), 7);
+                    let lower = shaker.between(0, 6);
+                    let higher = shaker.between(lower + 1, 7);
                     names[lower as usize] = names[higher as usize];
                     words = [7, lower + 1, higher + 1, 0, 0, 0, 0, 0];
                 }

@@ -6,6 +6,7 @@ use super::{
 use crate::cases::cases;
 use crate::check::slip_text;
 use crate::draw::{element, element_indices, one_of, Kind};
+use crate::program::pairs_of_places;
 use crate::question::Question;
 use second::lot::Lot;
 use second::specimens::Shaker;
@@ -136,13 +137,12 @@ fn digits() -> Vec<Question> {
 /// Every pair of places with one index: all pairs in one lot, and one lot of each.
 fn named_twice() -> Vec<Question> {
     let a = cases().swap_remove(0);
-    let pairs = (0..8).flat_map(|lower| (lower + 1..8).map(move |higher| (lower, higher)));
-    let elements = pairs.map(|(lower, higher)| {
+    let with_pair = |(lower, higher): (usize, usize)| {
         let mut indices = a.indices;
         indices[higher] = indices[lower];
         indices
-    });
-    let elements: Vec<[u32; 8]> = elements.collect();
+    };
+    let elements: Vec<[u32; 8]> = pairs_of_places().map(with_pair).collect();
     let lots = elements.chunks(1).chain([&elements[..]]);
     let lot = |elements: &[[u32; 8]]| Lot {
         label: b"pairs".to_vec(),
@@ -184,7 +184,7 @@ fn listed() -> Corpora {
 
 // ------------------------------------------------------------------- drawn --
 
-/// A lot of a few elements of several kinds, with bad indices among them.
+/// A lot of a few elements of several kinds, with bad and repeated indices among them.
 fn random_mesh(shaker: &mut Shaker) -> Lot {
     let kinds = [Kind::Uniform, Kind::Shaken, Kind::Small, Kind::Mirrored, Kind::Extreme];
     let blocks = below(shaker, 4);

@@ -33,7 +33,7 @@ fn the_cube() {
     assert_eq!(slip(include_bytes!("../../../../examples/cube.lot")), text.as_bytes());
 }
 
-/// The lot of the examples: every kind of record.
+/// The lot of the examples: one element of each verdict.
 #[test]
 fn the_grouped_lot() {
     let text = "lot SAMPLE 7\n\
@@ -47,9 +47,9 @@ fn the_grouped_lot() {
     assert_eq!(String::from_utf8(printed).unwrap(), text);
 }
 
-/// Valid at a deeper level, invalid, undecided, and refused by an index and by a
-/// coordinate; names of groups, two at one place, one empty, one after the last
-/// element.
+/// Valid at a deeper level, invalid, undecided, and refused by an index, by a
+/// coordinate and by a pair of places; names of groups, two at one place, one empty,
+/// one after the last element.
 #[test]
 fn every_kind_of_record() {
     let mut all = lot(b"all kinds", &['D', 'C', 'F', 'A'], &[0, 8, 16, 25, 24])
@@ -57,8 +57,9 @@ fn every_kind_of_record() {
         .group(1, b" two words ")
         .group(3, b"")
         .group(4, b"~")
-        .group(5, b"after the last");
+        .group(6, b"after the last");
     all.nodes[3 * 26 + 1] = 4097;
+    all.elements.extend([24, 25, 24, 27, 28, 29, 30, 31]);
     expect(
         &all,
         &[
@@ -68,7 +69,8 @@ fn every_kind_of_record() {
             "3  two words  2 3 0 0 2 13 -262144 169",
             "4 all kinds 5 8 32 0 0 0 0 0",
             "5 ~ 6 3 2 0 0 0 0 0",
-            "tally 1 1 1 2",
+            "6 ~ 7 1 3 0 0 0 0 0",
+            "tally 1 1 1 3",
             "stamp faulty",
         ],
     );
