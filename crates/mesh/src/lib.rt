@@ -8,6 +8,7 @@ ghost use Prim.Native.Nat.{ℕ, _+_, _-_, _*_, _/_, _^_, _<_, _≤_};
 ghost use lib.ListN.{length, getD, take, drop};
 ghost use lib.IntN.{pos, natAbs};
 ghost use Rattle.definitions.specs.Limits.{base};
+ghost use Rattle.definitions.specs.Record.{words};
 ghost use Rattle.definitions.specs.Mesh.{wellSized, refusal, missingIndex, namedTwice, usable, pointsOf, outOfRange, faultOf, counted};
 ghost use Rattle.mesh.specs.Meaning.{checkOf, firstOf, sameAfter, pointsAfter, elementOf, refusedWords, countsHeld};
 ghost use Rattle.verdict.specs.Elements.{total};
@@ -196,15 +197,22 @@ pub fn fault(coordinates: &[i32], ix: &[u32], p: &mut [i32; 24]) -> Element
     Element::Whole
 }
 
+// The record of an element that is refused: the number, and the two that name the fault.
+fn refusal_words(number: u32, first: u32, second: u32) -> [i64; 8]
+    ensures { λ r. ⌜ r ≡ words number first second 0 0 0 (pos 0) 0 ⌝ }
+{
+    [number as i64, first as i64, second as i64, 0, 0, 0, 0, 0]
+}
+
 // The record of a refused element: why it is refused. Of a whole element eight zeros.
 pub fn fault_words(f: Element) -> [i64; 8]
     ensures { λ r. ⌜ r ≡ refusedWords (elementOf f) ⌝ }
 {
     match f {
         Element::Whole => [0, 0, 0, 0, 0, 0, 0, 0],
-        Element::Missing(place, index) => [5, place as i64, index as i64, 0, 0, 0, 0, 0],
-        Element::Twice(lower, higher) => [7, lower as i64, higher as i64, 0, 0, 0, 0, 0],
-        Element::Outside(place, axis) => [6, place as i64, axis as i64, 0, 0, 0, 0, 0],
+        Element::Missing(place, index) => refusal_words(5, place, index),
+        Element::Twice(lower, higher) => refusal_words(7, lower, higher),
+        Element::Outside(place, axis) => refusal_words(6, place, axis),
     }
 }
 

@@ -1,10 +1,15 @@
 -- `fault_words` meets its contract. Assumes nothing.
-use native.Mathlib.Omega.{arith}
+use mathlib.Core.Path.{sym, _∙_, ap}
+use mathlib.Core.List.{List}
+use lib.IntN.{ℤ}
 use borrow.Author.Needs.{needs}
-use mir.Syntax.{w64}
-use mir.Facts.{toZ-pos}
+use Rattle.mesh.specs.declared.Element.{Element}
+use Rattle.mesh.specs.Meaning.{elementOf, refusedWords}
 use Rattle.mesh.proofs.fault_words.Statement.{statement}
 use Rattle.mesh.proofs.fault_words.Tie as tie
+
+abbrev wordsOf : Element → List ℤ
+wordsOf f = refusedWords (elementOf f)
 
 enum-told : tie.Need-enum-told
 enum-told c = search needs
@@ -12,47 +17,32 @@ enum-told c = search needs
 enum-known-f : tie.Need-enum-known-f
 enum-known-f c = search needs
 
-cast-t9 : tie.Need-cast-t9
-cast-t9 c = search needs
-
-cast-t10 : tie.Need-cast-t10
-cast-t10 c = search needs
+refusal-words-requires : tie.Need-refusal-words-requires
+refusal-words-requires c κs = search needs
 
 enum-known-f-2 : tie.Need-enum-known-f-2
 enum-known-f-2 c = search needs
 
-cast-t11 : tie.Need-cast-t11
-cast-t11 c = search needs
-
-cast-t12 : tie.Need-cast-t12
-cast-t12 c = search needs
+refusal-words-requires-2 : tie.Need-refusal-words-requires-2
+refusal-words-requires-2 c κs = search needs
 
 enum-known-f-3 : tie.Need-enum-known-f-3
 enum-known-f-3 c = search needs
 
-cast-t13 : tie.Need-cast-t13
-cast-t13 c = search needs
-
-cast-t14 : tie.Need-cast-t14
-cast-t14 c = search needs
+refusal-words-requires-3 : tie.Need-refusal-words-requires-3
+refusal-words-requires-3 c κs = search needs
 
 returns : tie.Need-returns
-returns c = rw (c .enum-told .given .1)
+returns c = sym (ap wordsOf (c .enum-told .given .1))
 
 returns-2 : tie.Need-returns-2
-returns-2 c =
-    let given = c .before .f .given in
-    rw (given .1, toZ-pos w64 {n = given .0 .0} (omega arith), toZ-pos w64 {n = given .0 .1 .0} (omega arith))
+returns-2 c = c .refusal-words .ensures ∙ sym (ap wordsOf (c .before .before .f .given .1))
 
 returns-3 : tie.Need-returns-3
-returns-3 c =
-    let given = c .before .f2 .given in
-    rw (given .1, toZ-pos w64 {n = given .0 .0} (omega arith), toZ-pos w64 {n = given .0 .1 .0} (omega arith))
+returns-3 c = c .refusal-words2 .ensures ∙ sym (ap wordsOf (c .before .before .f2 .given .1))
 
 returns-4 : tie.Need-returns-4
-returns-4 c =
-    let given = c .before .f3 .given in
-    rw (given .1, toZ-pos w64 {n = given .0 .0} (omega arith), toZ-pos w64 {n = given .0 .1 .0} (omega arith))
+returns-4 c = c .refusal-words3 .ensures ∙ sym (ap wordsOf (c .before .before .f3 .given .1))
 
 pub fault-words-spec : {M : Type 1} → statement M
 fault-words-spec =
@@ -60,14 +50,11 @@ fault-words-spec =
     (tie.spec
     enum-told
     enum-known-f
-    cast-t9
-    cast-t10
+    refusal-words-requires
     enum-known-f-2
-    cast-t11
-    cast-t12
+    refusal-words-requires-2
     enum-known-f-3
-    cast-t13
-    cast-t14
+    refusal-words-requires-3
     returns
     returns-2
     returns-3
