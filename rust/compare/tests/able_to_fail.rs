@@ -165,56 +165,50 @@ impl Wrong {
         }
     }
 
-    /// What is spoilt of an element with one index in two places, or with two nodes
-    /// at one point.
-    fn spoil_pair(&self, coordinates: &[i32], element: &[u32], depth: u32, record: &mut [i64]) {
-        let refused_by = |(lower, higher): (usize, usize)| {
-            [7, lower as i64 + 1, higher as i64 + 1, 0, 0, 0, 0, 0]
+    /// The record of an element with one index in two places, or with two nodes at one
+    /// point, spoilt.
+    fn spoilt_pair(
+        &self,
+        coordinates: &[i32],
+        element: &[u32],
+        depth: u32,
+        record: [i64; 8],
+    ) -> [i64; 8] {
+        let told = |pair: Option<&(usize, usize)>| match pair {
+            Some(&(lower, higher)) => [7, lower as i64 + 1, higher as i64 + 1, 0, 0, 0, 0, 0],
+            None => record,
         };
         let pairs = pairs_of(|lower, higher| element[lower] == element[higher]);
         let points = second::points_of(coordinates, element);
-        match (self.0, record[0], points) {
-            (Fault::PairIsTaken, 7, Some(points)) => {
-                record.copy_from_slice(&record_of_points(&points, depth));
-            }
-            (Fault::PairAfterTheRange, 7, Some(points)) => {
-                let taken = record_of_points(&points, depth);
-                if taken[0] == 6 {
-                    record.copy_from_slice(&taken);
+        match (self.0, record, points) {
+            (Fault::PairIsTaken, [7, ..], Some(points)) => record_of_points(&points, depth),
+            (Fault::PairAfterTheRange, [7, ..], Some(points)) => {
+                match record_of_points(&points, depth) {
+                    outside @ [6, ..] => outside,
+                    _ => record,
                 }
             }
-            (Fault::PairBeforeMissing, 5, _) if !pairs.is_empty() => {
-                record.copy_from_slice(&refused_by(pairs[0]));
+            (Fault::PairBeforeMissing, [5, ..], _) => told(pairs.first()),
+            (Fault::PairWithHighestFirst, [7, ..], _) => {
+                told(pairs.iter().max_by_key(|pair| (pair.0, Reverse(pair.1))))
             }
-            (Fault::PairWithHighestFirst, 7, _) => {
-                let highest =
-                    pairs.iter().max_by_key(|pair| (pair.0, Reverse(pair.1))).expect("a pair");
-                record.copy_from_slice(&refused_by(*highest));
+            (Fault::PairWithLowestSecond, [7, ..], _) => {
+                told(pairs.iter().min_by_key(|pair| pair.1))
             }
-            (Fault::PairWithLowestSecond, 7, _) => {
-                let lowest = pairs.iter().min_by_key(|pair| pair.1).expect("a pair");
-                record.copy_from_slice(&refused_by(*lowest));
+            (Fault::PairWithHighestSecond, [7, ..], _) => {
+                told(pairs.iter().take_while(|pair| pair.0 == pairs[0].0).last())
             }
-            (Fault::PairWithHighestSecond, 7, _) => {
-                let same = |pair: &&(usize, usize)| pair.0 == pairs[0].0;
-                record
-                    .copy_from_slice(&refused_by(*pairs.iter().rev().find(same).expect("a pair")));
+            (Fault::IndexForTheSecondPlace, [7, lower, higher, ..], _) => {
+                [7, lower, i64::from(element[higher as usize - 1]), 0, 0, 0, 0, 0]
             }
-            (Fault::IndexForTheSecondPlace, 7, _) => {
-                record[2] = i64::from(element[pairs[0].1]);
+            (Fault::PlacesFromZero, [7, lower, higher, ..], _) => {
+                [7, lower - 1, higher - 1, 0, 0, 0, 0, 0]
             }
-            (Fault::PlacesFromZero, 7, _) => {
-                record[1] -= 1;
-                record[2] -= 1;
-            }
-            (Fault::NodesAtOnePoint, 0..=2, Some(points)) => {
+            (Fault::NodesAtOnePoint, [0..=2, ..], Some(points)) => {
                 let node = |place: usize| &points[3 * place..3 * place + 3];
-                let at_one_point = pairs_of(|lower, higher| node(lower) == node(higher));
-                if let Some(pair) = at_one_point.first() {
-                    record.copy_from_slice(&refused_by(*pair));
-                }
+                told(pairs_of(|lower, higher| node(lower) == node(higher)).first())
             }
-            _ => {}
+            _ => record,
         }
     }
 
@@ -254,10 +248,10 @@ impl Inspects for Wrong {
         }
         let nodes = coordinates.len() / 3;
         for (record, element) in report.chunks_exact_mut(8).zip(indices.chunks_exact(8)) {
-            let kind = record[0];
-            self.spoil_pair(coordinates, element, depth, record);
-            if record[0] != kind {
-                answer[counted(kind)] -= 1;
+            let words: [i64; 8] = (&*record).try_into().expect("eight words");
+            record.copy_from_slice(&self.spoilt_pair(coordinates, element, depth, words));
+            if record[0] != words[0] {
+                answer[counted(words[0])] -= 1;
                 answer[counted(record[0])] += 1;
             }
             match self.0 {
