@@ -74,16 +74,16 @@ pointsOf coordinates ix = tabulate (λ k. getD coordinates (3 * getD ix (k / 3) 
 unfoldable pub outOfRange : Limits → List ℤ → Option ℕ
 outOfRange L xs = firstFrom (λ k. not (usable L (getD xs k (pos 0)))) 0 24
 
--- "Within an element all eight indices are tested before any coordinate; lowest place first, then x, y, z."; 02, No. 5: 7 is "tested after 5 and before 6"
+-- "Within an element all eight indices are tested before any coordinate; lowest place first, then x, y, z."; 02, No. 5: 7 is "tested after 5 and before 6".
+-- By what the three searches find: a missing index, a pair, a coordinate out of range.
+abbrev pub faultBy : List ℕ → Option ℕ → Option ℕ → Option ℕ → Option Fault
+faultBy ix (some k) t o = some (missing (suc k) (getD ix k 0))
+faultBy ix none (some k) o = some (twice (suc (k / 8)) (suc (k % 8)))
+faultBy ix none none (some k) = some (outside (suc (k / 3)) (suc (k % 3)))
+faultBy ix none none none = none
+
 unfoldable pub faultOf : Limits → List ℤ → List ℕ → Option Fault
-faultOf L coordinates ix = elim (missingIndex (length coordinates / 3) ix) [
-  | some k ↦ some (missing (suc k) (getD ix k 0))
-  | none ↦
-      elim (namedTwice ix) [
-        | some k ↦ some (twice (suc (k / 8)) (suc (k % 8)))
-        | none ↦ elim (outOfRange L (pointsOf coordinates ix)) [ some k ↦ some (outside (suc (k / 3)) (suc (k % 3))) | none ↦ none ]
-      ]
-]
+faultOf L coordinates ix = faultBy ix (missingIndex (length coordinates / 3) ix) (namedTwice ix) (outOfRange L (pointsOf coordinates ix))
 
 unfoldable pub elementRecord : Limits → List ℤ → List ℕ → ℕ → List ℤ
 elementRecord L coordinates ix D = elim (faultOf L coordinates ix) [ some f ↦ faultWords f | none ↦ recordOf (pointsOf coordinates ix) D ]

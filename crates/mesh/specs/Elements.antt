@@ -15,7 +15,7 @@ use Rattle.foundation.specs.Lists.{getD-all, tabulate-at}
 use Rattle.foundation.specs.Words.{Within, within}
 use Rattle.definitions.specs.Limits.{Limits}
 use Rattle.definitions.specs.Record.{Fault, missing, twice, outside}
-use Rattle.definitions.specs.Mesh.{Refusal, depthTooGreat, badCoordinates, badIndices, badSpace, wellSized, refusal, missingIndex, namedTwice, usable, pointsOf, outOfRange, faultOf}
+use Rattle.definitions.specs.Mesh.{Refusal, depthTooGreat, badCoordinates, badIndices, badSpace, wellSized, refusal, missingIndex, namedTwice, usable, pointsOf, outOfRange, faultBy, faultOf}
 use Rattle.mesh.specs.Meaning.{pointsAfter, refusedWords}
 use Rattle.mesh.specs.Search.{never, first-below, first-none}
 use Rattle.mesh.specs.Pairs.{LowestPair, lowest-pair, distinct}
@@ -113,17 +113,7 @@ module _ (nodes : ℕ) (ix : List ℕ) where
   unfolding missingIndex
   missing-none e k h = leb-false nodes (getD ix k 0) (first-none (λ k. leb nodes (getD ix k 0)) 0 8 e k (omega arith) h)
 
--- ---- why an element is refused, by what the search of its indices, that of its pairs of places and that of its coordinates find
-abbrev faultBy : List ℕ → Option ℕ → Option ℕ → Option ℕ → Option Fault
-faultBy ix m t o = elim m [
-  | some k ↦ some (missing (suc k) (getD ix k 0))
-  | none ↦
-      elim t [
-        | some k ↦ some (twice (suc (k / 8)) (suc (k % 8)))
-        | none ↦ elim o [ some k ↦ some (outside (suc (k / 3)) (suc (k % 3))) | none ↦ none ]
-      ]
-]
-
+-- ---- why an element is refused, by what the three searches find
 faultBy-none : (ix : List ℕ) (m t o : Option ℕ) → faultBy ix m t o ≡ none → (m ≡ none) × (t ≡ none) × (o ≡ none)
 faultBy-none ix none none none e = (refl, refl, refl)
 faultBy-none ix none none (some k) e = never e
