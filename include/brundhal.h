@@ -145,7 +145,7 @@ BrundhalMove brundhal_parent(BrundhalAddress q);
  * lot are three arrays:
  *   names     the names of all groups, laid end to end
  *   lengths   the length of each group's name
- *   befores   of each group, how many elements stand before it */
+ *   offsets   of each group, how many elements stand before it */
 
 /* The answer of reading a lot file. number is 0 for an accepted lot, with its
  * numbers of nodes, of elements and of groups, and names, the bytes of all groups'
@@ -176,7 +176,7 @@ typedef struct BrundhalLot {
  *   elements  lent space of at least eight words an element
  * as brundhal_inspect takes them, and
  *   names     lent space of at least a byte for each of the names' bytes
- *   lengths, befores   lent space of at least a word a group, each
+ *   lengths, offsets   lent space of at least a word a group, each
  * as brundhal_name and brundhal_write_lot take them. All five are written only if
  * the lot is accepted, and only as far as it goes. */
 BrundhalLot brundhal_read_lot(const uint8_t *file, size_t file_len,
@@ -184,13 +184,13 @@ BrundhalLot brundhal_read_lot(const uint8_t *file, size_t file_len,
                               uint32_t *elements, size_t elements_len,
                               uint8_t *names, size_t names_len,
                               uint32_t *lengths, size_t lengths_len,
-                              uint32_t *befores, size_t befores_len);
+                              uint32_t *offsets, size_t offsets_len);
 
 /* The answer of writing a lot file: number 0 with the file's length, or 0 as its
  * length with
  *    2  nodes_len is no multiple of 3
  *    3  elements_len is no multiple of 8
- *   24  the groups do not fit together: lengths_len is not befores_len, the lengths
+ *   24  the groups do not fit together: lengths_len is not offsets_len, the lengths
  *       do not add up to names_len, or a count of elements before a group is less
  *       than the one before it or more than there are elements
  *   23  the label or a group's name is longer than 32 bytes
@@ -211,7 +211,7 @@ BrundhalWritten brundhal_write_lot(const uint8_t *label, size_t label_len,
                                    const uint32_t *elements, size_t elements_len,
                                    const uint8_t *names, size_t names_len,
                                    const uint32_t *lengths, size_t lengths_len,
-                                   const uint32_t *befores, size_t befores_len,
+                                   const uint32_t *offsets, size_t offsets_len,
                                    uint8_t *out, size_t out_len);
 
 /* The name that an element bears, a part of the caller's own bytes with no 0 byte
@@ -229,7 +229,7 @@ typedef struct BrundhalName {
 BrundhalName brundhal_name(const uint8_t *label, size_t label_len,
                            const uint8_t *names, size_t names_len,
                            const uint32_t *lengths, size_t lengths_len,
-                           const uint32_t *befores, size_t befores_len,
+                           const uint32_t *offsets, size_t offsets_len,
                            uint32_t element);
 
 /* The length of lent space for a slip: every slip fits. */

@@ -15,7 +15,7 @@ static uint8_t file[BRUNDHAL_LOT_BYTES + 1];
 static int32_t nodes[BRUNDHAL_LOT_NODE_WORDS];
 static uint32_t elements[BRUNDHAL_LOT_ELEMENT_WORDS];
 static uint8_t names[BRUNDHAL_LOT_NAME_BYTES];
-static uint32_t lengths[BRUNDHAL_LOT_GROUPS], befores[BRUNDHAL_LOT_GROUPS];
+static uint32_t lengths[BRUNDHAL_LOT_GROUPS], offsets[BRUNDHAL_LOT_GROUPS];
 static int64_t report[LENGTH(elements)];
 static uint8_t written[BRUNDHAL_LOT_BYTES];
 
@@ -39,7 +39,7 @@ static void print_elements(const BrundhalLot *lot)
 
     for (uint32_t element = 0; element < lot->elements; element++) {
         BrundhalName name = brundhal_name(label, lot->len, names, lot->names,
-                                          lengths, lot->groups, befores, lot->groups, element);
+                                          lengths, lot->groups, offsets, lot->groups, element);
         const uint8_t *bytes = (name.grouped ? names : label) + name.start;
         int64_t kind = report[BRUNDHAL_RECORD_WORDS * element];
         printf("element %" PRIu32 " of %.*s: %s\n", element + 1, (int)name.len,
@@ -54,7 +54,7 @@ static int writes_back(const BrundhalLot *lot, size_t file_len)
                                                 nodes, 3 * (size_t)lot->nodes,
                                                 elements, 8 * (size_t)lot->elements,
                                                 names, lot->names,
-                                                lengths, lot->groups, befores, lot->groups,
+                                                lengths, lot->groups, offsets, lot->groups,
                                                 written, sizeof written);
     return answer.number == 0 && answer.len == file_len && memcmp(written, file, file_len) == 0;
 }
@@ -73,7 +73,7 @@ int main(int argc, char **argv)
 
     BrundhalLot lot = brundhal_read_lot(file, file_len, nodes, LENGTH(nodes),
                                         elements, LENGTH(elements), names, LENGTH(names),
-                                        lengths, LENGTH(lengths), befores, LENGTH(befores));
+                                        lengths, LENGTH(lengths), offsets, LENGTH(offsets));
     if (lot.number != 0) {
         fprintf(stderr, "lot refused %" PRIu32 "\n", lot.number);
         return 1;

@@ -3,14 +3,14 @@ use mathlib.Core.Path.{_≡_, refl, ap}
 use Prim.Native.Nat.{ℕ}
 use native.Mathlib.Omega.{arith}
 use lib.ListN.{length}
-use Rattle.lotfile.specs.Format.{lotFile}
-use Rattle.lotfile.specs.Runs.{Runs}
-use Rattle.lotfile.specs.Writing.{Writing, file, unwritten, writing}
-use Rattle.roundtrip.specs.Tests.{written-writable}
-use Rattle.writer.specs.declared.Written.{Written}
-use Rattle.writer.specs.declared.Written.the-variants.{Length, Refused}
-use Rattle.writer.specs.Meaning.{writtenHeld, answerOf}
-use Rattle.writer.specs.Answers.{length-file}
+use Rattle.lot_format.specs.Format.{lotFile}
+use Rattle.lot_format.specs.Runs.{Runs}
+use Rattle.lot_format.specs.Writing.{Writing, file, unwritten, writing}
+use Rattle.lot_roundtrip_theory.specs.Tests.{written-writable}
+use Rattle.lot_writer.specs.declared.Written.{Written}
+use Rattle.lot_writer.specs.declared.Written.the-variants.{Length, Refused}
+use Rattle.lot_writer.specs.Meaning.{writtenHeld, answerOf}
+use Rattle.lot_writer.specs.Answers.{length-file}
 use Rattle.brundhal.specs.Meaning.{ShortAnswer, answerNumbers, writingNumbers}
 
 pub short-answer : (x : Runs) (room : ℕ) (answer : Written) → writtenHeld answer ≡ answerOf (writing lotFile x room) → ShortAnswer answer

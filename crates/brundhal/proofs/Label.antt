@@ -4,21 +4,21 @@ use mathlib.Core.List.{List}
 use Prim.Native.Nat.{ℕ}
 use lib.ListN.{length, take, drop}
 use Rattle.foundation.specs.Lists.{All}
-use Rattle.lotfile.specs.Numbers.{Byte}
-use Rattle.lotfile.specs.Format.{FileLimits}
-use Rattle.lotfile.specs.Reading.{refusalNumber, Reading, accepted, refused, readingNumber, Room, reading, handedOut, labelPlace}
-use Rattle.lotfile.specs.Numbered.{not-zero}
-use Rattle.lotfile.specs.Accepted.{reading-accepted, accepted-label}
+use Rattle.lot_format.specs.Numbers.{Byte}
+use Rattle.lot_format.specs.Format.{FileLimits}
+use Rattle.lot_format.specs.Reading.{unreadableNumber, Reading, readable, unreadable, readingNumber, Room, reading, handedOut, labelPlace}
+use Rattle.lot_format.specs.Numbered.{not-zero}
+use Rattle.lot_format.specs.Accepted.{reading-accepted, accepted-label}
 use Rattle.brundhal.specs.Meaning.{labelStart, other-start}
 
 pub start-is-place : (r : Reading) → labelStart (readingNumber r) ≡ labelPlace r
-start-is-place (accepted lot) = refl
-start-is-place (refused r) = other-start (refusalNumber r) (not-zero r)
+start-is-place (readable lot) = refl
+start-is-place (unreadable r) = other-start (unreadableNumber r) (not-zero r)
 
 pub label-in-file : (F : FileLimits) (file : List ℕ) (room : Room) → All Byte file
     → take (length (handedOut (reading F file room) .label)) (drop (labelPlace (reading F file room)) file) ≡ handedOut (reading F file room) .label
 label-in-file F file room h = go (reading F file room) refl
   where
     go : (r : Reading) → reading F file room ≡ r → take (length (handedOut r .label)) (drop (labelPlace r) file) ≡ handedOut r .label
-    go (refused w) e = refl
-    go (accepted lot) e = sym (accepted-label F file lot h (reading-accepted F file room lot e .0))
+    go (unreadable w) e = refl
+    go (readable lot) e = sym (accepted-label F file lot h (reading-accepted F file room lot e .0))

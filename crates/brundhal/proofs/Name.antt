@@ -6,8 +6,8 @@ use Prim.Native.Nat.{ℕ, _+_, _≤_}
 use native.Mathlib.Omega.{arith}
 use lib.ListN.{length, take, drop, length-drop}
 use lib.Seq.{length-take-le, take-length}
-use Rattle.lotfile.specs.Format.{Group}
-use Rattle.lotfile.specs.Naming.{nameInForce, placeInForce, isEmpty, nameOf}
+use Rattle.lot_format.specs.Format.{Group}
+use Rattle.lot_format.specs.Naming.{nameInForce, placeInForce, isEmpty, nameOf}
 use Rattle.brundhal.specs.Meaning.{nameNumbers}
 
 empty-is : (xs : List ℕ) → length xs ≡ 0 → isEmpty xs ≡ true

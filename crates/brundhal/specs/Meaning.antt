@@ -9,21 +9,21 @@ use lib.Dec.{eqb}
 use lib.ListN.{length, take, drop}
 use lib.IntN.{ℤ}
 use Rattle.definitions.specs.Address.{Address, Move}
-use Rattle.definitions.specs.Mesh.{depthTooGreat, badCoordinates, badIndices, badSpace, Counts, Inspection, accepted, refused, inspectionNumber, inspectionCounts, Stamp, sound, faulty, «open», stampOf, stampGiven, Bounds, boundsNumber, boundsLow, boundsHigh}
+use Rattle.definitions.specs.Mesh.{depthTooGreat, badCoordinates, badIndices, badSpace, Counts, Inspection, meshAccepted, meshRefused, inspectionNumber, inspectionCounts, Stamp, sound, faulty, «open», stampOf, stampGiven, Bounds, boundsNumber, boundsLow, boundsHigh}
 use Rattle.brundhal.specs.declared.BrundhalInspection.{BrundhalInspection}
 use Rattle.brundhal.specs.declared.BrundhalBounds.{BrundhalBounds}
 use Rattle.brundhal.specs.declared.BrundhalAddress.{BrundhalAddress}
-use Rattle.lotfile.specs.Reading.{Reading, handedOut, labelPlace, readingNumbers}
+use Rattle.lot_format.specs.Reading.{Reading, handedOut, labelPlace, readingNumbers}
 use Rattle.brundhal.specs.declared.BrundhalMove.{BrundhalMove}
 use Rattle.brundhal.specs.declared.BrundhalLot.{BrundhalLot}
 use Rattle.brundhal.specs.declared.BrundhalWritten.{BrundhalWritten}
 use Rattle.brundhal.specs.declared.BrundhalName.{BrundhalName}
-use Rattle.lotfile.specs.Format.{lotFile, Group}
-use Rattle.lotfile.specs.Naming.{nameInForce, placeInForce, isEmpty}
-use Rattle.lotfile.specs.Writing.{unwritableNumber, Writing, fileOf, writingNumber}
-use Rattle.writer.specs.declared.Written.{Written}
-use Rattle.writer.specs.declared.Written.the-variants.{Length, Refused}
-use Rattle.writer.specs.Meaning.{Answer, lengthIs, refuses}
+use Rattle.lot_format.specs.Format.{lotFile, Group}
+use Rattle.lot_format.specs.Naming.{nameInForce, placeInForce, isEmpty}
+use Rattle.lot_format.specs.Writing.{unwritableNumber, Writing, fileOf, writingNumber}
+use Rattle.lot_writer.specs.declared.Written.{Written}
+use Rattle.lot_writer.specs.declared.Written.the-variants.{Length, Refused}
+use Rattle.lot_writer.specs.Meaning.{Answer, lengthIs, refuses}
 
 -- an inspection's number and counts
 pub record Numbers : Type 0 where
@@ -72,11 +72,11 @@ zero-number r h = ap (stampWhen (r .counts)) (eq-eqb (r .number) 0 h)
 
 -- the stamp of an answer's numbers is that of the answer
 pub same-stamp : (i : Inspection) → stampFor (numbersOf i) ≡ stampGiven i
-same-stamp (accepted n) = refl
-same-stamp (refused depthTooGreat) = refl
-same-stamp (refused badCoordinates) = refl
-same-stamp (refused badIndices) = refl
-same-stamp (refused badSpace) = refl
+same-stamp (meshAccepted n) = refl
+same-stamp (meshRefused depthTooGreat) = refl
+same-stamp (meshRefused badCoordinates) = refl
+same-stamp (meshRefused badIndices) = refl
+same-stamp (meshRefused badSpace) = refl
 
 -- addresses; a move that was made is 1
 abbrev pub addressHeld : BrundhalAddress → Address

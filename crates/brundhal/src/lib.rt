@@ -6,25 +6,25 @@ ghost use lib.ListN.{length, take, drop};
 ghost use Rattle.definitions.specs.Limits.{base};
 ghost use Rattle.definitions.specs.Address.{childAddress, cornerAddress, parentAddress};
 ghost use Rattle.definitions.specs.Mesh.{inspection, reportAfter, boundsOf};
-ghost use Rattle.address.specs.Meaning.{addressOf, moveOf};
+ghost use Rattle.cell_address.specs.Meaning.{addressOf, moveOf};
 ghost use Rattle.inspector.specs.Meaning.{inspectionHeld, stampHeld, boundsHeld};
-ghost use Rattle.lotfile.specs.Format.{lotFile};
-ghost use Rattle.lotfile.specs.Reading.{readInto, handedOut};
+ghost use Rattle.lot_format.specs.Format.{lotFile};
+ghost use Rattle.lot_format.specs.Reading.{readInto, handedOut};
 ghost use Rattle.foundation.specs.Laid.{laidOver};
-ghost use Rattle.lotfile.specs.Runs.{groupsOf};
-ghost use Rattle.lotfile.specs.Naming.{nameOf};
-ghost use Rattle.lotfile.specs.Writing.{unwritableNumber, writing, fileOf};
-ghost use Rattle.printed.specs.Slip.{slipOf};
-ghost use Rattle.writer.specs.Meaning.{runs, unwritableHeld, writtenHeld};
+ghost use Rattle.lot_format.specs.Runs.{groupsOf};
+ghost use Rattle.lot_format.specs.Naming.{nameOf};
+ghost use Rattle.lot_format.specs.Writing.{unwritableNumber, writing, fileOf};
+ghost use Rattle.slip_format.specs.Slip.{slipOf};
+ghost use Rattle.lot_writer.specs.Meaning.{runs, unwritableHeld, writtenHeld};
 ghost use Rattle.brundhal.specs.Meaning.{ShortAnswer, writtenNumbersHeld, answerNumbers, writingNumbers, nameHeld, nameTold, nameNumbers, labelStart, lotNumbers, lotHeld, numbersOf, numbersHeld, pairOf, pairHeld, stampNumber, stampTold, stampFor, addressHeld, moveHeld};
-use address::Address;
-use address::Moved;
+use cell_address::Address;
+use cell_address::Moved;
 use inspector::Bounds;
 use inspector::Inspection;
 use inspector::Stamp;
-use mesh::Counts;
-use writer::Unwritable;
-use writer::Written;
+use lot_writer::Unwritable;
+use lot_writer::Written;
+use mesh_checks::Counts;
 
 // The number that answers an inspection, 0 or 1 to 4, and the four counts.
 #[repr(C)]
@@ -226,7 +226,7 @@ fn moved(answer: Moved) -> BrundhalMove
     }
 }
 
-// The moves of an address: `address::Address`.
+// The moves of an address: `cell_address::Address`.
 #[no_mangle]
 pub extern "C" fn brundhal_child(q: BrundhalAddress, n: u32) -> BrundhalMove
     ensures { λ r. ⌜ moveHeld r ≡ childAddress (base .depth) (addressHeld q) n ⌝ }
@@ -258,7 +258,7 @@ fn label_start(number: u32) -> u32
     0
 }
 
-// Reads a lot file: `lot::read`. C has no part of a slice, so the label is told by its place in the file and its length.
+// Reads a lot file: `lot_reader::read`. C has no part of a slice, so the label is told by its place in the file and its length.
 #[no_mangle]
 pub extern "C" fn brundhal_read_lot(
     file: &[u8],
@@ -266,18 +266,18 @@ pub extern "C" fn brundhal_read_lot(
     elements: &mut [u32],
     names: &mut [u8],
     lengths: &mut [u32],
-    befores: &mut [u32],
+    offsets: &mut [u32],
 ) -> BrundhalLot
-    ensures { λ r. ⌜ lotHeld r ≡ lotNumbers (readInto lotFile (now (file .entry)) (now (nodes .entry)) (now (elements .entry)) (now (names .entry)) (now (lengths .entry)) (now (befores .entry))) ⌝ }
-    ensures { λ r. ⌜ take (r .len) (drop (r .start) (now (file .entry))) ≡ handedOut (readInto lotFile (now (file .entry)) (now (nodes .entry)) (now (elements .entry)) (now (names .entry)) (now (lengths .entry)) (now (befores .entry))) .label ⌝ }
-    ensures { λ r. ⌜ now (nodes .exit) ≡ laidOver (handedOut (readInto lotFile (now (file .entry)) (now (nodes .entry)) (now (elements .entry)) (now (names .entry)) (now (lengths .entry)) (now (befores .entry))) .nodes) (now (nodes .entry)) ⌝ }
-    ensures { λ r. ⌜ now (elements .exit) ≡ laidOver (handedOut (readInto lotFile (now (file .entry)) (now (nodes .entry)) (now (elements .entry)) (now (names .entry)) (now (lengths .entry)) (now (befores .entry))) .elements) (now (elements .entry)) ⌝ }
-    ensures { λ r. ⌜ now (names .exit) ≡ laidOver (handedOut (readInto lotFile (now (file .entry)) (now (nodes .entry)) (now (elements .entry)) (now (names .entry)) (now (lengths .entry)) (now (befores .entry))) .names) (now (names .entry)) ⌝ }
-    ensures { λ r. ⌜ now (lengths .exit) ≡ laidOver (handedOut (readInto lotFile (now (file .entry)) (now (nodes .entry)) (now (elements .entry)) (now (names .entry)) (now (lengths .entry)) (now (befores .entry))) .lengths) (now (lengths .entry)) ⌝ }
-    ensures { λ r. ⌜ now (befores .exit) ≡ laidOver (handedOut (readInto lotFile (now (file .entry)) (now (nodes .entry)) (now (elements .entry)) (now (names .entry)) (now (lengths .entry)) (now (befores .entry))) .befores) (now (befores .entry)) ⌝ }
+    ensures { λ r. ⌜ lotHeld r ≡ lotNumbers (readInto lotFile (now (file .entry)) (now (nodes .entry)) (now (elements .entry)) (now (names .entry)) (now (lengths .entry)) (now (offsets .entry))) ⌝ }
+    ensures { λ r. ⌜ take (r .len) (drop (r .start) (now (file .entry))) ≡ handedOut (readInto lotFile (now (file .entry)) (now (nodes .entry)) (now (elements .entry)) (now (names .entry)) (now (lengths .entry)) (now (offsets .entry))) .label ⌝ }
+    ensures { λ r. ⌜ now (nodes .exit) ≡ laidOver (handedOut (readInto lotFile (now (file .entry)) (now (nodes .entry)) (now (elements .entry)) (now (names .entry)) (now (lengths .entry)) (now (offsets .entry))) .nodes) (now (nodes .entry)) ⌝ }
+    ensures { λ r. ⌜ now (elements .exit) ≡ laidOver (handedOut (readInto lotFile (now (file .entry)) (now (nodes .entry)) (now (elements .entry)) (now (names .entry)) (now (lengths .entry)) (now (offsets .entry))) .elements) (now (elements .entry)) ⌝ }
+    ensures { λ r. ⌜ now (names .exit) ≡ laidOver (handedOut (readInto lotFile (now (file .entry)) (now (nodes .entry)) (now (elements .entry)) (now (names .entry)) (now (lengths .entry)) (now (offsets .entry))) .names) (now (names .entry)) ⌝ }
+    ensures { λ r. ⌜ now (lengths .exit) ≡ laidOver (handedOut (readInto lotFile (now (file .entry)) (now (nodes .entry)) (now (elements .entry)) (now (names .entry)) (now (lengths .entry)) (now (offsets .entry))) .lengths) (now (lengths .entry)) ⌝ }
+    ensures { λ r. ⌜ now (offsets .exit) ≡ laidOver (handedOut (readInto lotFile (now (file .entry)) (now (nodes .entry)) (now (elements .entry)) (now (names .entry)) (now (lengths .entry)) (now (offsets .entry))) .offsets) (now (offsets .entry)) ⌝ }
 {
     let mut answer = [0u32; 5];
-    let label = lot::read(file, nodes, elements, names, lengths, befores, &mut answer);
+    let label = lot_reader::read(file, nodes, elements, names, lengths, offsets, &mut answer);
     let number = answer[0];
     let n = answer[1];
     let e = answer[2];
@@ -298,8 +298,8 @@ fn unwritable_number(r: Unwritable) -> u32
     ensures { λ n. ⌜ n ≡ unwritableNumber (unwritableHeld r) ⌝ }
 {
     match r {
-        Unwritable::OddNodes => 2,
-        Unwritable::OddElements => 3,
+        Unwritable::PartialNode => 2,
+        Unwritable::PartialElement => 3,
         Unwritable::GroupsApart => 24,
         Unwritable::NameTooLong => 23,
         Unwritable::BadByte => 25,
@@ -325,7 +325,7 @@ fn written(answer: Written) -> BrundhalWritten
     }
 }
 
-// Writes a lot file: `writer::write`.
+// Writes a lot file: `lot_writer::write`.
 #[no_mangle]
 pub extern "C" fn brundhal_write_lot(
     label: &[u8],
@@ -333,28 +333,28 @@ pub extern "C" fn brundhal_write_lot(
     elements: &[u32],
     names: &[u8],
     lengths: &[u32],
-    befores: &[u32],
+    offsets: &[u32],
     out: &mut [u8],
 ) -> BrundhalWritten
-    ensures { λ r. ⌜ writtenNumbersHeld r ≡ writingNumbers (writing lotFile (runs (now (label .entry)) (now (nodes .entry)) (now (elements .entry)) (now (names .entry)) (now (lengths .entry)) (now (befores .entry))) (length (now (out .entry)))) ⌝ }
-    ensures { λ r. ⌜ now (out .exit) ≡ laidOver (fileOf (writing lotFile (runs (now (label .entry)) (now (nodes .entry)) (now (elements .entry)) (now (names .entry)) (now (lengths .entry)) (now (befores .entry))) (length (now (out .entry))))) (now (out .entry)) ⌝ }
+    ensures { λ r. ⌜ writtenNumbersHeld r ≡ writingNumbers (writing lotFile (runs (now (label .entry)) (now (nodes .entry)) (now (elements .entry)) (now (names .entry)) (now (lengths .entry)) (now (offsets .entry))) (length (now (out .entry)))) ⌝ }
+    ensures { λ r. ⌜ now (out .exit) ≡ laidOver (fileOf (writing lotFile (runs (now (label .entry)) (now (nodes .entry)) (now (elements .entry)) (now (names .entry)) (now (lengths .entry)) (now (offsets .entry))) (length (now (out .entry))))) (now (out .entry)) ⌝ }
 {
-    written(writer::write(label, nodes, elements, names, lengths, befores, out))
+    written(lot_writer::write(label, nodes, elements, names, lengths, offsets, out))
 }
 
-// The name that an element bears: `naming::name_of`. C has no part of a slice, so it is told by its place and its length.
+// The name that an element bears: `lot_naming::name_of`. C has no part of a slice, so it is told by its place and its length.
 #[no_mangle]
 pub extern "C" fn brundhal_name(
     label: &[u8],
     names: &[u8],
     lengths: &[u32],
-    befores: &[u32],
+    offsets: &[u32],
     element: u32,
 ) -> BrundhalName
-    ensures { λ r. ⌜ nameHeld r ≡ nameNumbers (now (label .entry)) (groupsOf (now (names .entry)) (now (lengths .entry)) (now (befores .entry))) element ⌝ }
-    ensures { λ r. ⌜ nameTold r (now (label .entry)) (now (names .entry)) ≡ nameOf (now (label .entry)) (groupsOf (now (names .entry)) (now (lengths .entry)) (now (befores .entry))) element ⌝ }
+    ensures { λ r. ⌜ nameHeld r ≡ nameNumbers (now (label .entry)) (groupsOf (now (names .entry)) (now (lengths .entry)) (now (offsets .entry))) element ⌝ }
+    ensures { λ r. ⌜ nameTold r (now (label .entry)) (now (names .entry)) ≡ nameOf (now (label .entry)) (groupsOf (now (names .entry)) (now (lengths .entry)) (now (offsets .entry))) element ⌝ }
 {
-    let part = naming::part_in_force(names, lengths, befores, element);
+    let part = lot_naming::part_in_force(names, lengths, offsets, element);
     if part.len == 0 {
         return BrundhalName {
             grouped: 0,
@@ -369,11 +369,11 @@ pub extern "C" fn brundhal_name(
     }
 }
 
-// Writes the slip of a lot file to the front of the lent bytes and returns its length: `slip::write`.
+// Writes the slip of a lot file to the front of the lent bytes and returns its length: `slip_writer::write`.
 #[no_mangle]
 pub extern "C" fn brundhal_slip(file: &[u8], out: &mut [u8; 262144]) -> usize
     ensures { λ r. ⌜ r ≡ length (slipOf base lotFile 3 (now (file .entry))) ⌝ }
     ensures { λ r. ⌜ now (out .exit) ≡ laidOver (slipOf base lotFile 3 (now (file .entry))) (now (out .entry)) ⌝ }
 {
-    slip::write(file, out)
+    slip_writer::write(file, out)
 }

@@ -4,7 +4,7 @@ use Prim.Native.Nat.{ℕ, suc, _^_}
 use lib.IntN.{ℤ}
 use Rattle.foundation.specs.Lists.{concatMap, tabulate}
 use Rattle.foundation.specs.Least.{leastOf}
-use Rattle.definitions.specs.Jacobian.{held}
+use Rattle.definitions.specs.Jacobian.{scaledJacobian}
 use Rattle.definitions.specs.Subdivision.{cells}
 use Rattle.definitions.specs.Verdict.{coefficientsOf}
 
@@ -14,7 +14,7 @@ low xs D = leastOf (map (λ f. f .value) (concatMap coefficientsOf (cells xs D))
 
 -- J at every grid point of level m
 abbrev pub gridValues : List ℤ → ℕ → List ℤ
-gridValues xs m = let n = suc (2 ^ m) in concatMap (λ a. concatMap (λ b. tabulate (held xs m a b) 0 n) (tabulate (λ b. b) 0 n)) (tabulate (λ a. a) 0 n)
+gridValues xs m = let n = suc (2 ^ m) in concatMap (λ a. concatMap (λ b. tabulate (scaledJacobian xs m a b) 0 n) (tabulate (λ b. b) 0 n)) (tabulate (λ a. a) 0 n)
 
 -- "high is the least J over all level-D grid points"
 unfoldable pub high : List ℤ → ℕ → ℤ

@@ -4,7 +4,7 @@ use Prim.Native.Nat.{ℕ, zero, suc, _+_, _*_, _-_, _/_}
 use lib.ListN.{getD, length, take, drop}
 use lib.IntN.{ℤ, pos, negsuc}
 use Rattle.foundation.specs.Polynomial.{Arithmetic, integers}
-use Rattle.foundation.specs.Lists.{tabulate}
+use Rattle.foundation.specs.Lists.{tabulate, sum}
 use Rattle.definitions.specs.Jacobian.{side, Nodes, nodesOf, det}
 
 -- "1 to 8: corners."
@@ -26,10 +26,6 @@ faceNumbers =
 -- the corners that each of the 27 lies between
 abbrev pub numbering : List (List ℕ)
 numbering = cornerNumbers ++ edgeNumbers ++ faceNumbers ++ ((1 ∷ 2 ∷ 3 ∷ 4 ∷ 5 ∷ 6 ∷ 7 ∷ 8 ∷ []) ∷ [])
-
-abbrev pub sum : List ℕ → ℕ
-sum [] = 0
-sum (n ∷ ns) = n + sum ns
 
 -- its place in direction d: 0, 1, 2 for the start, the middle, the end
 abbrev pub place : ℕ → List ℕ → ℕ

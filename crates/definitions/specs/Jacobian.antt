@@ -73,5 +73,5 @@ unfoldable pub jacobian : List ℤ → ℕ → ℕ → ℕ → ℕ → ℤ
 jacobian xs m a b c = J integers (nodesOf xs) (grid (2 ^ m) a b c)
 
 -- J held as the coefficients of level m are: times 8 · 64^m
-unfoldable pub held : List ℤ → ℕ → ℕ → ℕ → ℕ → ℤ
-held xs m a b c = pos 8 *ℤ jacobian xs m a b c
+unfoldable pub scaledJacobian : List ℤ → ℕ → ℕ → ℕ → ℕ → ℤ
+scaledJacobian xs m a b c = pos 8 *ℤ jacobian xs m a b c

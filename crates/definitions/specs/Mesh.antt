@@ -12,24 +12,24 @@ use Rattle.definitions.specs.Bounds.{low, high}
 use Rattle.definitions.specs.Record.{Fault, missing, twice, outside, faultWords, recordOf}
 
 -- "1 to 4 are tested in that order, and given only then."
-pub data Refusal : Type 0 where
-  depthTooGreat : Refusal
-  badCoordinates : Refusal
-  badIndices : Refusal
-  badSpace : Refusal
+pub data MeshRefusal : Type 0 where
+  depthTooGreat : MeshRefusal
+  badCoordinates : MeshRefusal
+  badIndices : MeshRefusal
+  badSpace : MeshRefusal
 
-abbrev pub refusalNumber : Refusal → ℕ
-refusalNumber depthTooGreat = 1
-refusalNumber badCoordinates = 2
-refusalNumber badIndices = 3
-refusalNumber badSpace = 4
+abbrev pub meshRefusalNumber : MeshRefusal → ℕ
+meshRefusalNumber depthTooGreat = 1
+meshRefusalNumber badCoordinates = 2
+meshRefusalNumber badIndices = 3
+meshRefusalNumber badSpace = 4
 
 -- a run of n numbers is a whole number of groups of k, and at most `most` of them
 abbrev pub wellSized : ℕ → ℕ → ℕ → Bool
 wellSized n k most = eqb (n % k) 0 && leb (n / k) most
 
 -- The lengths of the coordinate run, of the index run and of the report space, and the depth.
-unfoldable pub refusal : Limits → ℕ → ℕ → ℕ → ℕ → Option Refusal
+unfoldable pub refusal : Limits → ℕ → ℕ → ℕ → ℕ → Option MeshRefusal
 refusal L coordinates indices space D =
     elim (ltb (L .depth) D) [
       | true ↦ some depthTooGreat
@@ -118,21 +118,21 @@ countsOf (r ∷ rs) = counted (natAbs (getD r 0 (pos 0))) (countsOf rs)
 
 -- The answer of an inspection: number 0 with the counts, or the refusal's number with counts 0.
 pub data Inspection : Type 0 where
-  accepted : Counts → Inspection
-  refused : Refusal → Inspection
+  meshAccepted : Counts → Inspection
+  meshRefused : MeshRefusal → Inspection
 
 abbrev pub inspectionNumber : Inspection → ℕ
-inspectionNumber (accepted n) = 0
-inspectionNumber (refused r) = refusalNumber r
+inspectionNumber (meshAccepted n) = 0
+inspectionNumber (meshRefused r) = meshRefusalNumber r
 
 abbrev pub inspectionCounts : Inspection → Counts
-inspectionCounts (accepted n) = n
-inspectionCounts (refused r) = noCounts
+inspectionCounts (meshAccepted n) = n
+inspectionCounts (meshRefused r) = noCounts
 
 unfoldable pub inspection : Limits → List ℤ → List ℕ → ℕ → ℕ → Inspection
 inspection L coordinates indices space D = elim (refusal L (length coordinates) (length indices) space D) [
-  | some r ↦ refused r
-  | none ↦ accepted (countsOf (records L coordinates indices D))
+  | some r ↦ meshRefused r
+  | none ↦ meshAccepted (countsOf (records L coordinates indices D))
 ]
 
 -- the report space afterwards: "untouched" where the mesh is refused
@@ -162,8 +162,8 @@ stampOf n = stampBy (onlyValid n) (someFaulty n)
 
 -- the stamp of an inspection's answer: a refused mesh has no record and no stamp
 abbrev pub stampGiven : Inspection → Option Stamp
-stampGiven (accepted n) = some (stampOf n)
-stampGiven (refused r) = none
+stampGiven (meshAccepted n) = some (stampOf n)
+stampGiven (meshRefused r) = none
 
 -- "The bounds service … answers 0 with both bounds. It refuses with 1 and then 6 and no other, by number alone, and both bounds are then 0."
 pub data Bounds : Type 0 where

@@ -7,7 +7,7 @@ use lib.ListN.{getD}
 use lib.IntN.{ℤ, pos}
 use lib.Signed.{leZ}
 use Rattle.foundation.specs.Lists.{concatMap, tabulate}
-use Rattle.definitions.specs.Jacobian.{side, held}
+use Rattle.definitions.specs.Jacobian.{side, scaledJacobian}
 use Rattle.definitions.specs.Subdivision.{Cell, children, whole, descend, cells}
 
 -- What is looked at: a corner or a coefficient of a cell, by its number from 1, with grid numbers and the value held.
@@ -20,7 +20,7 @@ pub record Finding : Type 0 where
 
 -- the corners of a cell of level m, with J there
 unfoldable pub cornersOf : List ℤ → ℕ → Cell → List Finding
-cornersOf xs m s = tabulate (λ k. let a = s .a + side 0 k in let b = s .b + side 1 k in let c = s .c + side 2 k in record { number = suc k; a = a; b = b; c = c; value = held xs m a b c }) 0 8
+cornersOf xs m s = tabulate (λ k. let a = s .a + side 0 k in let b = s .b + side 1 k in let c = s .c + side 2 k in record { number = suc k; a = a; b = b; c = c; value = scaledJacobian xs m a b c }) 0 8
 
 -- the coefficients of a cell
 unfoldable pub coefficientsOf : Cell → List Finding

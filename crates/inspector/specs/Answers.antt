@@ -10,34 +10,34 @@ use lib.ListN.{length}
 use lib.IntN.{ℤ}
 use Rattle.definitions.specs.Limits.{Limits}
 use Rattle.definitions.specs.Bounds.{low, high}
-use Rattle.definitions.specs.Mesh.{Refusal, refusal, records, report, Counts, countsOf, Inspection, accepted, refused, inspection, reportAfter, outOfRange, Bounds, bounds, tooDeep, outOfLimits, boundsOf, stampBy, onlyValid, someFaulty, stampOf}
+use Rattle.definitions.specs.Mesh.{MeshRefusal, refusal, records, report, Counts, countsOf, Inspection, meshAccepted, meshRefused, inspection, reportAfter, outOfRange, Bounds, bounds, tooDeep, outOfLimits, boundsOf, stampBy, onlyValid, someFaulty, stampOf}
 
 -- ---- an inspection, by what refuses the mesh
 module _ (L : Limits) (coordinates : List ℤ) (indices : List ℕ) (space : List ℤ) (D : ℕ) where
-  abbrev pub refusalHere : Option Refusal
+  abbrev pub refusalHere : Option MeshRefusal
   refusalHere = refusal L (length coordinates) (length indices) (length space) D
 
-  abbrev answerBy : Option Refusal → Inspection
-  answerBy o = elim o [ some r ↦ refused r | none ↦ accepted (countsOf (records L coordinates indices D)) ]
+  abbrev answerBy : Option MeshRefusal → Inspection
+  answerBy o = elim o [ some r ↦ meshRefused r | none ↦ meshAccepted (countsOf (records L coordinates indices D)) ]
 
-  abbrev spaceBy : Option Refusal → List ℤ
+  abbrev spaceBy : Option MeshRefusal → List ℤ
   spaceBy o = elim o [ some r ↦ space | none ↦ report L coordinates indices D ]
 
-  answer-is : (o : Option Refusal) → refusalHere ≡ o → inspection L coordinates indices (length space) D ≡ answerBy o
+  answer-is : (o : Option MeshRefusal) → refusalHere ≡ o → inspection L coordinates indices (length space) D ≡ answerBy o
   unfolding inspection
   answer-is o e = ap answerBy e
 
-  space-is : (o : Option Refusal) → refusalHere ≡ o → reportAfter L coordinates indices space D ≡ spaceBy o
+  space-is : (o : Option MeshRefusal) → refusalHere ≡ o → reportAfter L coordinates indices space D ≡ spaceBy o
   unfolding reportAfter
   space-is o e = ap spaceBy e
 
-  pub refused-answer : (r : Refusal) → refusalHere ≡ some r → inspection L coordinates indices (length space) D ≡ refused r
+  pub refused-answer : (r : MeshRefusal) → refusalHere ≡ some r → inspection L coordinates indices (length space) D ≡ meshRefused r
   refused-answer r e = answer-is (some r) e
 
-  pub refused-space : (r : Refusal) → refusalHere ≡ some r → reportAfter L coordinates indices space D ≡ space
+  pub refused-space : (r : MeshRefusal) → refusalHere ≡ some r → reportAfter L coordinates indices space D ≡ space
   refused-space r e = space-is (some r) e
 
-  pub accepted-answer : refusalHere ≡ none → inspection L coordinates indices (length space) D ≡ accepted (countsOf (records L coordinates indices D))
+  pub accepted-answer : refusalHere ≡ none → inspection L coordinates indices (length space) D ≡ meshAccepted (countsOf (records L coordinates indices D))
   accepted-answer e = answer-is none e
 
   pub accepted-space : refusalHere ≡ none → reportAfter L coordinates indices space D ≡ report L coordinates indices D

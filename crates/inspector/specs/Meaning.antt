@@ -1,6 +1,6 @@
 -- What the inspector's answers stand for: document 01's numbers and values for each case.
-use Rattle.definitions.specs.Mesh.{depthTooGreat, badCoordinates, badIndices, badSpace, Inspection, accepted, refused, Stamp, sound, faulty, «open», Bounds, bounds, tooDeep, outOfLimits}
-use Rattle.mesh.specs.Meaning.{countsHeld}
+use Rattle.definitions.specs.Mesh.{depthTooGreat, badCoordinates, badIndices, badSpace, Inspection, meshAccepted, meshRefused, Stamp, sound, faulty, «open», Bounds, bounds, tooDeep, outOfLimits}
+use Rattle.mesh_checks.specs.Meaning.{countsHeld}
 use Rattle.inspector.specs.declared.Inspection.{Inspection as HeldInspection}
 use Rattle.inspector.specs.declared.Inspection.the-variants.{Accepted, DepthTooGreat, BadCoordinates, BadIndices, BadSpace}
 use Rattle.inspector.specs.declared.Stamp.{Stamp as HeldStamp}
@@ -9,11 +9,11 @@ use Rattle.inspector.specs.declared.Bounds.{Bounds as HeldBounds}
 use Rattle.inspector.specs.declared.Bounds.the-variants.{Both, TooDeep, OutOfRange}
 
 abbrev pub inspectionHeld : HeldInspection → Inspection
-inspectionHeld (Accepted n) = accepted (countsHeld n)
-inspectionHeld DepthTooGreat = refused depthTooGreat
-inspectionHeld BadCoordinates = refused badCoordinates
-inspectionHeld BadIndices = refused badIndices
-inspectionHeld BadSpace = refused badSpace
+inspectionHeld (Accepted n) = meshAccepted (countsHeld n)
+inspectionHeld DepthTooGreat = meshRefused depthTooGreat
+inspectionHeld BadCoordinates = meshRefused badCoordinates
+inspectionHeld BadIndices = meshRefused badIndices
+inspectionHeld BadSpace = meshRefused badSpace
 
 abbrev pub stampHeld : HeldStamp → Stamp
 stampHeld Sound = sound

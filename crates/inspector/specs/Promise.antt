@@ -13,9 +13,9 @@ use Rattle.definitions.specs.Jacobian.{jacobian}
 use Rattle.definitions.specs.Bounds.{low, high}
 use Rattle.definitions.specs.Record.{recordOf}
 use Rattle.definitions.specs.Mesh.{refusal, pointsOf, outOfRange, faultOf, elementRecord, reportAfter, bounds, boundsOf}
-use Rattle.verdict.specs.CloserLook.{first, CloserLook, closer-look}
-use Rattle.verdict.specs.Elements.{element-points}
-use Rattle.mesh.specs.Elements.{accepted-mesh, whole-element}
+use Rattle.verdict_theory.specs.DepthMonotone.{first, DepthMonotone, depth-monotone}
+use Rattle.verdict_theory.specs.Elements.{element-points}
+use Rattle.mesh_checks.specs.Elements.{accepted-mesh, whole-element}
 use Rattle.inspector.specs.Reports.{report-part}
 use Rattle.inspector.specs.Answers.{refusalHere, accepted-space, bounds-inside}
 
@@ -54,7 +54,7 @@ pub record BoundsKept (L : Limits) (xs : List ℤ) (D D′ : ℕ) : Type 0 where
   pub high-bound : high xs D′ ≤ℤ (pos (64 ^ (D′ - D)) *ℤ high xs D)
 
 pub bounds-kept : (L : Limits) (xs : List ℤ) (D D′ : ℕ) → D ≤ D′ → D′ ≤ L .depth → outOfRange L xs ≡ none → BoundsKept L xs D D′
-bounds-kept L xs D D′ l deep inside = let look = closer-look xs D D′ l in record {
+bounds-kept L xs D D′ l deep inside = let look = depth-monotone xs D D′ l in record {
   here = bounds-inside L xs D (omega arith) inside;
   there = bounds-inside L xs D′ deep inside;
   low-bound = look .low-bound;
@@ -69,7 +69,7 @@ pub record Kept (L : Limits) (xs : List ℤ) (m : Mesh) (e : ℕ) (m′ : Mesh) 
 
 pub kept : (L : Limits) (xs : List ℤ) (m : Mesh) (e : ℕ) (m′ : Mesh) (e′ : ℕ) → Stands L m e xs → Stands L m′ e′ xs → m .depth ≤ m′ .depth → Kept L xs m e m′ e′
 kept L xs m e m′ e′ h h′ l =
-    let look = closer-look xs (m .depth) (m′ .depth) l in
+    let look = depth-monotone xs (m .depth) (m′ .depth) l in
     let w = words-are L m e xs h in
     let w′ = words-are L m′ e′ xs h′ in
     record {

@@ -9,8 +9,8 @@ use lib.IntN.{ℤ, pos, natAbs}
 use Rattle.foundation.specs.Lists.{All, all-tabulate, concatMap, concatMap-append, append-nil, tabulate, length-tabulate, tabulate-at}
 use Rattle.definitions.specs.Limits.{Limits}
 use Rattle.definitions.specs.Mesh.{elementRecord, records, report, Counts, counted, countsOf}
-use Rattle.verdict.specs.Elements.{element-length, concat-length, total, counts-total}
-use Rattle.mesh.specs.Report.{put-next}
+use Rattle.verdict_theory.specs.Elements.{element-length, concat-length, countsTotal, counts-total}
+use Rattle.mesh_checks.specs.Report.{put-next}
 
 -- ---- one more at the end
 tabulate-last : {A : Type 0} (f : ℕ → A) (i n : ℕ) → tabulate f i (n + 1) ≡ tabulate f i n ++ (f (i + n) ∷ [])
@@ -99,7 +99,7 @@ natural-by x y e h = subst (λ (z : ℤ). z ≡ pos (natAbs z)) (sym e) h
 
 module _ (L : Limits) (coordinates : List ℤ) (indices : List ℕ) (D : ℕ) where
   -- as many are counted as are written
-  pub counted-so-far : (e : ℕ) → total (countsOf (firstRecords L coordinates indices D e)) ≡ e
+  pub counted-so-far : (e : ℕ) → countsTotal (countsOf (firstRecords L coordinates indices D e)) ≡ e
   counted-so-far e = counts-total (firstRecords L coordinates indices D e) ∙ length-tabulate (recordAt L coordinates indices D) 0 e
 
   -- record e put after those before it

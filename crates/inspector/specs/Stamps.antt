@@ -11,9 +11,9 @@ use lib.ListN.{length, take, drop}
 use lib.IntN.{ℤ, pos, natAbs}
 use Rattle.foundation.specs.Lists.{tabulate, tabulate-cong}
 use Rattle.definitions.specs.Limits.{Limits}
-use Rattle.definitions.specs.Mesh.{Refusal, records, report, Counts, counted, countsOf, inspection, reportAfter, Stamp, «open», stampBy, onlyValid, someFaulty, stampOf, stampGiven}
-use Rattle.verdict.specs.CloserLook.{first}
-use Rattle.verdict.specs.Elements.{element-same, counts-total, report-length}
+use Rattle.definitions.specs.Mesh.{MeshRefusal, records, report, Counts, counted, countsOf, inspection, reportAfter, Stamp, «open», stampBy, onlyValid, someFaulty, stampOf, stampGiven}
+use Rattle.verdict_theory.specs.DepthMonotone.{first}
+use Rattle.verdict_theory.specs.Elements.{element-same, counts-total, report-length}
 use Rattle.inspector.specs.Reports.{recordAt, report-part}
 use Rattle.inspector.specs.Answers.{refusalHere, refused-answer, accepted-answer, accepted-space, stamp-is}
 
@@ -108,7 +108,7 @@ module _ (L : Limits) (coordinates : List ℤ) (indices : List ℕ) (D : ℕ) wh
       ∙ tabulate-cong (λ e. take 8 (drop (8 * e) (report L coordinates indices D))) (recordAt L coordinates indices D) 0 n (λ e h. report-part L coordinates indices D e (omega arith))
 
 -- what the report space gives, read record by record: nothing where the mesh is refused
-abbrev pub stampRead : Option Refusal → List ℤ → Option Stamp
+abbrev pub stampRead : Option MeshRefusal → List ℤ → Option Stamp
 stampRead (some r) words = none
 stampRead none words = some (stampOfRecords (recordsIn words))
 
@@ -120,8 +120,8 @@ module _ (L : Limits) (coordinates : List ℤ) (indices : List ℕ) where
   pub stamp-as-read : (space : List ℤ) (D : ℕ) → stampGiven (inspection L coordinates indices (length space) D) ≡ stampRead (refusalHere L coordinates indices space D) (reportAfter L coordinates indices space D)
   stamp-as-read space D = go (refusalHere L coordinates indices space D) refl
     where
-      go : (o : Option Refusal) → refusalHere L coordinates indices space D ≡ o → stampGiven (inspection L coordinates indices (length space) D) ≡ stampRead (refusalHere L coordinates indices space D) (reportAfter L coordinates indices space D)
-      go (some r) e = ap stampGiven (refused-answer L coordinates indices space D r e) ∙ sym (ap (λ (o : Option Refusal). stampRead o (reportAfter L coordinates indices space D)) e)
+      go : (o : Option MeshRefusal) → refusalHere L coordinates indices space D ≡ o → stampGiven (inspection L coordinates indices (length space) D) ≡ stampRead (refusalHere L coordinates indices space D) (reportAfter L coordinates indices space D)
+      go (some r) e = ap stampGiven (refused-answer L coordinates indices space D r e) ∙ sym (ap (λ (o : Option MeshRefusal). stampRead o (reportAfter L coordinates indices space D)) e)
       go none e = accepted-stamp space D e
           ∙ ap (λ (rs : List (List ℤ)). some (stampOfRecords rs)) (sym (records-in-report L coordinates indices D))
           ∙ sym (ap₂ stampRead e (accepted-space L coordinates indices space D e))

@@ -10,15 +10,15 @@ ghost use lib.ListN.{length};
 ghost use Rattle.definitions.specs.Limits.{base};
 ghost use Rattle.definitions.specs.Record.{recordOf};
 ghost use Rattle.definitions.specs.Mesh.{elementRecord, records, report as reportOf, countsOf, inspection, reportAfter, stampOf, boundsOf};
-ghost use Rattle.control.specs.Range.{InRange};
-ghost use Rattle.mesh.specs.Meaning.{countsHeld};
-ghost use Rattle.search.specs.Bounds.{extremesOf, boundsAt};
+ghost use Rattle.narrow_coefficients.specs.Range.{InRange};
+ghost use Rattle.mesh_checks.specs.Meaning.{countsHeld};
+ghost use Rattle.narrow_search.specs.Bounds.{extremesOf, boundsAt};
 ghost use Rattle.inspector.specs.Meaning.{inspectionHeld, stampHeld, boundsHeld};
-use mesh::Checked;
-use mesh::Counts;
-use mesh::Element;
-use mesh::First;
-use search::Extremes;
+use mesh_checks::Checked;
+use mesh_checks::Counts;
+use mesh_checks::Element;
+use mesh_checks::First;
+use narrow_search::Extremes;
 
 // The answer of an inspection: accepted, with the counts of valid, invalid, undecided and refused records; or why the mesh is refused.
 pub enum Inspection {
@@ -49,8 +49,8 @@ fn points_record(p: &[i32; 24], depth: u32) -> [i64; 8]
     ensures { λ r. ⌜ r ≡ recordOf (now (p .entry)) depth ⌝ }
 {
     let mut g = [0i64; 27];
-    control::coefficients(p, &mut g);
-    search::record(&g, depth)
+    narrow_coefficients::coefficients(p, &mut g);
+    narrow_search::record(&g, depth)
 }
 
 // The record of the element whose eight indices are lent.
@@ -59,12 +59,12 @@ fn element(coordinates: &[i32], ix: &[u32], depth: u32) -> [i64; 8]
     ensures { λ r. ⌜ r ≡ elementRecord base (now (coordinates .entry)) (now (ix .entry)) depth ⌝ }
 {
     let mut p = [0i32; 24];
-    let fault = mesh::fault(coordinates, ix, &mut p);
+    let fault = mesh_checks::fault(coordinates, ix, &mut p);
     match fault {
         Element::Whole => points_record(&p, depth),
-        Element::Missing(place, index) => mesh::fault_words(fault),
-        Element::Twice(lower, higher) => mesh::fault_words(fault),
-        Element::Outside(place, axis) => mesh::fault_words(fault),
+        Element::Missing(place, index) => mesh_checks::fault_words(fault),
+        Element::Twice(lower, higher) => mesh_checks::fault_words(fault),
+        Element::Outside(place, axis) => mesh_checks::fault_words(fault),
     }
 }
 
@@ -86,8 +86,8 @@ fn write_records(coordinates: &[i32], indices: &[u32], depth: u32, report: &mut 
         let at = 8 * e;
         let words = element(coordinates, &indices[at..at + 8], depth);
         let kind = words[0];
-        counts = mesh::counted(kind, counts);
-        mesh::put(report, e, words);
+        counts = mesh_checks::counted(kind, counts);
+        mesh_checks::put(report, e, words);
     }
     counts
 }
@@ -97,7 +97,7 @@ pub fn inspect(coordinates: &[i32], indices: &[u32], depth: u32, report: &mut [i
     ensures { λ r. ⌜ inspectionHeld r ≡ inspection base (now (coordinates .entry)) (now (indices .entry)) (length (now (report .entry))) depth ⌝ }
     ensures { λ r. ⌜ now (report .exit) ≡ reportAfter base (now (coordinates .entry)) (now (indices .entry)) (now (report .entry)) depth ⌝ }
 {
-    let checked = mesh::check(coordinates.len(), indices.len(), report.len(), depth);
+    let checked = mesh_checks::check(coordinates.len(), indices.len(), report.len(), depth);
     match checked {
         Checked::Accepted => Inspection::Accepted(write_records(
             coordinates,
@@ -131,18 +131,18 @@ fn points_bounds(p: &[i32; 24], depth: u32) -> Extremes
     ensures { λ r. ⌜ extremesOf r ≡ boundsAt (now (p .entry)) depth ⌝ }
 {
     let mut g = [0i64; 27];
-    control::coefficients(p, &mut g);
-    search::bounds(&g, depth)
+    narrow_coefficients::coefficients(p, &mut g);
+    narrow_search::bounds(&g, depth)
 }
 
 // The low and the high bound of eight points, x, y, z of each, at a depth.
 pub fn bounds_of(p: [i32; 24], depth: u32) -> Bounds
     ensures { λ r. ⌜ boundsHeld r ≡ boundsOf base p depth ⌝ }
 {
-    if address::MAX_DEPTH < depth {
+    if cell_address::MAX_DEPTH < depth {
         return Bounds::TooDeep;
     }
-    let first = mesh::out_of_range(&p);
+    let first = mesh_checks::out_of_range(&p);
     match first {
         First::At(k) => Bounds::OutOfRange,
         First::Nothing => {

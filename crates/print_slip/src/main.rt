@@ -58,7 +58,7 @@ fn read_input(buffer: &mut [u8]) -> Input
 // Prints the slip of a file.
 fn print(file: &[u8]) {
     let mut out = [0u8; 262144];
-    let n = slip::write(file, &mut out);
+    let n = slip_writer::write(file, &mut out);
     io::write_all(STDOUT_FILENO, &out[..n]);
 }
 

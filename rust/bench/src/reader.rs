@@ -157,7 +157,7 @@ pub struct Space {
     pub elements: Vec<u32>,
     pub names: Vec<u8>,
     pub lengths: Vec<u32>,
-    pub befores: Vec<u32>,
+    pub offsets: Vec<u32>,
 }
 
 /// The second pass, for elements with groups among them.
@@ -172,7 +172,7 @@ fn fill_among(mut records: &[u8], space: &mut Space) {
         } else {
             space.names[name..][..length].copy_from_slice(&after[..length]);
             space.lengths[group] = length as u32;
-            space.befores[group] = element as u32;
+            space.offsets[group] = element as u32;
             name += length;
             group += 1;
         }
@@ -196,7 +196,7 @@ fn read<'a>(
     if 3 * found.nodes > space.nodes.len()
         || 8 * found.elements > space.elements.len()
         || found.names > space.names.len()
-        || found.groups > space.lengths.len().min(space.befores.len())
+        || found.groups > space.lengths.len().min(space.offsets.len())
     {
         return Err(27);
     }

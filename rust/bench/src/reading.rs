@@ -9,8 +9,8 @@ use std::hint::black_box;
 type Read = for<'a> fn(&'a [u8], &mut Space) -> Answer<'a>;
 
 fn library<'a>(file: &'a [u8], space: &mut Space) -> Answer<'a> {
-    let Space { nodes, elements, names, lengths, befores } = space;
-    let groups = brundhal::GroupSpace { names, lengths, befores };
+    let Space { nodes, elements, names, lengths, offsets } = space;
+    let groups = brundhal::GroupSpace { names, lengths, offsets };
     let lot = brundhal::read_lot(file, nodes, elements, groups);
     ([lot.number, lot.nodes, lot.elements, lot.groups, lot.names], lot.label)
 }
@@ -52,7 +52,7 @@ impl Space {
             elements: vec![1; elements],
             names: vec![1; names],
             lengths: vec![1; groups],
-            befores: vec![1; groups],
+            offsets: vec![1; groups],
         }
     }
 

@@ -34,7 +34,7 @@ fn print_slip(file: &[u8], out: &mut impl Write) -> io::Result<()> {
     out.write_all(b"\n")?;
     let (mut group, mut end, mut name) = (0, 0, label);
     for (element, record) in (0..).zip(report.chunks_exact(8)) {
-        while group < groups && space.befores[group] == element {
+        while group < groups && space.offsets[group] == element {
             let start = end;
             end += space.lengths[group] as usize;
             name = if start == end { label } else { &space.names[start..end] };

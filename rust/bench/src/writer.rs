@@ -9,10 +9,10 @@ const MOST_LABEL_BYTES: usize = 32;
 
 fn fit_together(groups: &Groups, elements: usize) -> bool {
     let sum: u64 = groups.lengths.iter().map(|&length| u64::from(length)).sum();
-    groups.lengths.len() == groups.befores.len()
+    groups.lengths.len() == groups.offsets.len()
         && sum == groups.names.len() as u64
-        && groups.befores.is_sorted()
-        && groups.befores.last().is_none_or(|&last| last as usize <= elements)
+        && groups.offsets.is_sorted()
+        && groups.offsets.last().is_none_or(|&last| last as usize <= elements)
 }
 
 /// The file's length, or the number of the refusal.
@@ -78,7 +78,7 @@ pub fn write(lot: &Lot, out: &mut [u8]) -> Answer {
         Ok(length) => length,
         Err(number) => return [number, 0],
     };
-    let Groups { names, lengths, befores } = &lot.groups;
+    let Groups { names, lengths, offsets } = &lot.groups;
     let mut out = Out(out);
     out.bytes(b"LB", &lot.label);
     for node in lot.nodes.chunks_exact(3) {
@@ -86,7 +86,7 @@ pub fn write(lot: &Lot, out: &mut [u8]) -> Answer {
     }
     let (mut group, mut name) = (0, 0);
     for at in 0..=lot.elements.len() / 8 {
-        while befores.get(group).is_some_and(|&before| before as usize == at) {
+        while offsets.get(group).is_some_and(|&before| before as usize == at) {
             let end = name + lengths[group] as usize;
             out.bytes(b"GR", &names[name..end]);
             (group, name) = (group + 1, end);

@@ -9,8 +9,8 @@ use std::hint::black_box;
 type Write = fn(&Lot, &mut [u8]) -> Answer;
 
 fn library(lot: &Lot, out: &mut [u8]) -> Answer {
-    let Groups { names, lengths, befores } = &lot.groups;
-    let groups = brundhal::Groups { names, lengths, befores };
+    let Groups { names, lengths, offsets } = &lot.groups;
+    let groups = brundhal::Groups { names, lengths, offsets };
     let written = brundhal::write_lot(&lot.label, &lot.nodes, &lot.elements, groups, out);
     [written.number, written.len]
 }
@@ -57,9 +57,9 @@ mod tests {
     fn the_writers_refuse_alike() {
         let small = || Lot::new(b"P7", &[[1, -2, 3]; 2], &[[7; 8]; 2]).group(1, b"ab");
         let many = |elements: usize| Lot::new(b"", &[], &vec![[7; 8]; elements]);
-        let groups = |lengths: &[u32], befores: &[u32]| {
-            let (lengths, befores) = (lengths.to_vec(), befores.to_vec());
-            Lot { groups: Groups { names: b"ab".to_vec(), lengths, befores }, ..small() }
+        let groups = |lengths: &[u32], offsets: &[u32]| {
+            let (lengths, offsets) = (lengths.to_vec(), offsets.to_vec());
+            Lot { groups: Groups { names: b"ab".to_vec(), lengths, offsets }, ..small() }
         };
         let lots = [
             (Lot { nodes: vec![1; 4], elements: vec![1; 9], ..small() }, 2),

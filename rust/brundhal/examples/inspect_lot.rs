@@ -35,8 +35,8 @@ fn inspect(file: &[u8]) -> Result<(), String> {
     let mut elements = vec![0; brundhal::LOT_ELEMENT_WORDS];
     let mut names = vec![0; brundhal::LOT_NAME_BYTES];
     let mut lengths = vec![0; brundhal::LOT_GROUPS];
-    let mut befores = vec![0; brundhal::LOT_GROUPS];
-    let space = GroupSpace { names: &mut names, lengths: &mut lengths, befores: &mut befores };
+    let mut offsets = vec![0; brundhal::LOT_GROUPS];
+    let space = GroupSpace { names: &mut names, lengths: &mut lengths, offsets: &mut offsets };
     let lot = brundhal::read_lot(file, &mut nodes, &mut elements, space);
     if lot.number != 0 {
         return Err(format!("lot refused {}", lot.number));
@@ -56,7 +56,7 @@ fn inspect(file: &[u8]) -> Result<(), String> {
     let groups = Groups {
         names: &names[..lot.names as usize],
         lengths: &lengths[..lot.groups as usize],
-        befores: &befores[..lot.groups as usize],
+        offsets: &offsets[..lot.groups as usize],
     };
     print_elements(lot.label, groups, &report);
     print_counts(answer);

@@ -34,7 +34,7 @@ struct Lot {
     elements: Vec<u32>,
     names: Vec<u8>,
     lengths: Vec<u32>,
-    befores: Vec<u32>,
+    offsets: Vec<u32>,
 }
 
 /// The `count` numbers of a line; `of` says in words how many there have to be, and
@@ -85,7 +85,7 @@ impl Lot {
         let count = |count: usize| u32::try_from(count).unwrap_or(u32::MAX);
         self.names.extend(name);
         self.lengths.push(count(name.len()));
-        self.befores.push(count(self.elements.len() / 8));
+        self.offsets.push(count(self.elements.len() / 8));
     }
 
     /// The lot that a text describes, or its first fault with the line's number.
@@ -106,8 +106,8 @@ impl Lot {
     /// The lot's file, or what the writer refuses, in words.
     fn file(&self) -> Result<Vec<u8>, String> {
         let label = self.label.as_deref().unwrap_or_default();
-        let Lot { names, lengths, befores, .. } = self;
-        let groups = brundhal::Groups { names, lengths, befores };
+        let Lot { names, lengths, offsets, .. } = self;
+        let groups = brundhal::Groups { names, lengths, offsets };
         let mut file = vec![0; brundhal::LOT_BYTES];
         let answer = brundhal::write_lot(label, &self.nodes, &self.elements, groups, &mut file);
         if answer.number != 0 {
@@ -201,7 +201,7 @@ mod tests {
             elements: vec![1, 2, 3, 4, 5, 6, 7, u32::MAX],
             names: b" two words ".to_vec(),
             lengths: vec![0, 11, 0],
-            befores: vec![0, 1, 1],
+            offsets: vec![0, 1, 1],
         };
         assert_eq!(Lot::of_text(text), Ok(lot));
         assert_eq!(Lot::of_text(b""), Ok(Lot::default()));

@@ -104,7 +104,7 @@ impl fmt::Display for Stamp {
 pub struct Groups<'a> {
     pub names: &'a [u8],
     pub lengths: &'a [u32],
-    pub befores: &'a [u32],
+    pub offsets: &'a [u32],
 }
 
 /// Lent space for the groups of a lot.
@@ -112,7 +112,7 @@ pub struct Groups<'a> {
 pub struct GroupSpace<'a> {
     pub names: &'a mut [u8],
     pub lengths: &'a mut [u32],
-    pub befores: &'a mut [u32],
+    pub offsets: &'a mut [u32],
 }
 
 /// The answer of reading a lot file.
@@ -217,8 +217,8 @@ mod raw {
             names_len: usize,
             lengths: *mut u32,
             lengths_len: usize,
-            befores: *mut u32,
-            befores_len: usize,
+            offsets: *mut u32,
+            offsets_len: usize,
         ) -> Lot;
         pub fn brundhal_write_lot(
             label: *const u8,
@@ -231,8 +231,8 @@ mod raw {
             names_len: usize,
             lengths: *const u32,
             lengths_len: usize,
-            befores: *const u32,
-            befores_len: usize,
+            offsets: *const u32,
+            offsets_len: usize,
             out: *mut u8,
             out_len: usize,
         ) -> Written;
@@ -243,8 +243,8 @@ mod raw {
             names_len: usize,
             lengths: *const u32,
             lengths_len: usize,
-            befores: *const u32,
-            befores_len: usize,
+            offsets: *const u32,
+            offsets_len: usize,
             element: u32,
         ) -> Name;
         pub fn brundhal_slip(file: *const u8, file_len: usize, out: *mut [u8; SLIP_BYTES])
@@ -316,8 +316,8 @@ pub fn read_lot<'a>(
             groups.names.len(),
             groups.lengths.as_mut_ptr(),
             groups.lengths.len(),
-            groups.befores.as_mut_ptr(),
-            groups.befores.len(),
+            groups.offsets.as_mut_ptr(),
+            groups.offsets.len(),
         )
     };
     let label = &file[start as usize..][..len as usize];
@@ -350,8 +350,8 @@ pub fn write_lot(
             groups.names.len(),
             groups.lengths.as_ptr(),
             groups.lengths.len(),
-            groups.befores.as_ptr(),
-            groups.befores.len(),
+            groups.offsets.as_ptr(),
+            groups.offsets.len(),
             out.as_mut_ptr(),
             out.len(),
         )
@@ -370,8 +370,8 @@ pub fn name_of<'a>(label: &'a [u8], groups: Groups<'a>, element: u32) -> Name<'a
             groups.names.len(),
             groups.lengths.as_ptr(),
             groups.lengths.len(),
-            groups.befores.as_ptr(),
-            groups.befores.len(),
+            groups.offsets.as_ptr(),
+            groups.offsets.len(),
             element,
         )
     };

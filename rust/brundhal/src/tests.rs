@@ -164,7 +164,7 @@ const EMPTY: &[u8] = b"LB\0\0EN\0\0";
 /// without.
 const LOT: &[u8] = b"LB\x02\0P7ND\x0C\0\x01\0\0\0\xFE\xFF\xFF\xFF\x03\0\0\0GR\x01\0aGR\0\0EN\0\0";
 
-const GROUPS: Groups = Groups { names: b"a", lengths: &[1, 0], befores: &[0, 0] };
+const GROUPS: Groups = Groups { names: b"a", lengths: &[1, 0], offsets: &[0, 0] };
 
 /// Lent space, full of sevens.
 #[derive(Clone, Debug, PartialEq)]
@@ -173,23 +173,23 @@ struct Space {
     elements: Vec<u32>,
     names: Vec<u8>,
     lengths: Vec<u32>,
-    befores: Vec<u32>,
+    offsets: Vec<u32>,
 }
 
 impl Space {
-    fn new([nodes, elements, names, lengths, befores]: [usize; 5]) -> Space {
+    fn new([nodes, elements, names, lengths, offsets]: [usize; 5]) -> Space {
         Space {
             nodes: vec![7; nodes],
             elements: vec![7; elements],
             names: vec![7; names],
             lengths: vec![7; lengths],
-            befores: vec![7; befores],
+            offsets: vec![7; offsets],
         }
     }
 
     fn read<'a>(&mut self, file: &'a [u8]) -> Lot<'a> {
-        let Space { nodes, elements, names, lengths, befores } = self;
-        read_lot(file, nodes, elements, GroupSpace { names, lengths, befores })
+        let Space { nodes, elements, names, lengths, offsets } = self;
+        read_lot(file, nodes, elements, GroupSpace { names, lengths, offsets })
     }
 }
 
@@ -199,9 +199,9 @@ fn lot_with_space_to_spare() {
     let lot = space.read(LOT);
     assert_eq!(lot, Lot { number: 0, nodes: 1, elements: 0, groups: 2, names: 1, label: b"P7" });
     assert_eq!(lot.label.as_ptr_range(), LOT[4..6].as_ptr_range());
-    let Space { nodes, elements, names, lengths, befores } = space;
+    let Space { nodes, elements, names, lengths, offsets } = space;
     assert_eq!((nodes, elements), (vec![1, -2, 3, 7, 7], vec![7; 8]));
-    assert_eq!((&names[..], lengths, befores), (&b"a\x07"[..], vec![1, 0, 7], vec![0, 0, 7]));
+    assert_eq!((&names[..], lengths, offsets), (&b"a\x07"[..], vec![1, 0, 7], vec![0, 0, 7]));
 }
 
 #[test]
@@ -255,7 +255,7 @@ type Handed<'a> = (&'a [u8], &'a [i32], &'a [u32], Groups<'a>);
 #[test]
 fn lots_that_are_not_written() {
     let long = [b'x'; 33];
-    let unfit = Groups { befores: &[0, 1], ..GROUPS };
+    let unfit = Groups { offsets: &[0, 1], ..GROUPS };
     let (many, full) = (vec![0; 8 * 1001], vec![0; 3 * 4096]);
     let lots: [(u32, Handed); 7] = [
         (2, (&long, &[0], &[0], unfit)),
@@ -279,7 +279,7 @@ fn lots_that_are_not_written() {
 #[test]
 fn names() {
     let (label, names) = (&b"L"[..], &b"onethree"[..]);
-    let groups = Groups { names, lengths: &[3, 0, 5], befores: &[1, 2, 3] };
+    let groups = Groups { names, lengths: &[3, 0, 5], offsets: &[1, 2, 3] };
     let named = |element: u32| name_of(label, groups, element);
     assert_eq!([0, 2].map(named), [Name::Label(b"L"); 2]);
     assert_eq!([1, 3].map(named), [Name::Group(b"one"), Name::Group(b"three")]);
@@ -291,7 +291,7 @@ fn names() {
 /// Names that do not reach as far as their lengths say.
 #[test]
 fn names_that_are_cut() {
-    let groups = Groups { names: b"ab", lengths: &[1, u32::MAX, 9], befores: &[0, 1, 2, 3] };
+    let groups = Groups { names: b"ab", lengths: &[1, u32::MAX, 9], offsets: &[0, 1, 2, 3] };
     assert_eq!(name_of(b"L", groups, 1), Name::Group(b"b"));
     assert_eq!(name_of(b"L", groups, 3), Name::Label(b"L"));
 }

@@ -160,10 +160,10 @@ fn some(shaker: &mut Shaker, most: usize) -> usize {
 fn with_groups(shaker: &mut Shaker, mut lot: Lot) -> Lot {
     let elements = lot.elements.len() / ELEMENT_WORDS;
     let most = if once_in(shaker, 100) { 300 } else { 4 };
-    let mut befores: Vec<u32> =
+    let mut offsets: Vec<u32> =
         (0..below(shaker, most + 1)).map(|_| below(shaker, elements + 1) as u32).collect();
-    befores.sort_unstable();
-    for before in befores {
+    offsets.sort_unstable();
+    for before in offsets {
         lot.groups.push(before, &random_label(shaker));
     }
     lot

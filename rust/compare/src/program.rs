@@ -30,7 +30,7 @@ pub struct Lent<'a> {
     pub elements: &'a mut [u32],
     pub names: &'a mut [u8],
     pub lengths: &'a mut [u32],
-    pub befores: &'a mut [u32],
+    pub offsets: &'a mut [u32],
 }
 
 /// What is said of a lot file: 0 or the number of the refusal; the numbers of
@@ -143,8 +143,8 @@ fn place([level, a, b, c]: Address) -> brundhal::Address {
 }
 
 fn lent_groups(groups: &Groups) -> brundhal::Groups<'_> {
-    let Groups { names, lengths, befores } = groups;
-    brundhal::Groups { names, lengths, befores }
+    let Groups { names, lengths, offsets } = groups;
+    brundhal::Groups { names, lengths, offsets }
 }
 
 impl Inspects for Product {
@@ -185,8 +185,8 @@ impl Inspects for Product {
 
 impl Reads for Product {
     fn read_lot<'a>(&self, file: &'a [u8], lent: Lent) -> ReadLot<'a> {
-        let Lent { nodes, elements, names, lengths, befores } = lent;
-        let groups = brundhal::GroupSpace { names, lengths, befores };
+        let Lent { nodes, elements, names, lengths, offsets } = lent;
+        let groups = brundhal::GroupSpace { names, lengths, offsets };
         brundhal::read_lot(file, nodes, elements, groups)
     }
 }
@@ -312,8 +312,8 @@ impl Inspects for Second {
 
 impl Reads for Second {
     fn read_lot<'a>(&self, file: &'a [u8], lent: Lent) -> ReadLot<'a> {
-        let Lent { nodes, elements, names, lengths, befores } = lent;
-        let space = [nodes.len(), elements.len(), names.len(), lengths.len(), befores.len()];
+        let Lent { nodes, elements, names, lengths, offsets } = lent;
+        let space = [nodes.len(), elements.len(), names.len(), lengths.len(), offsets.len()];
         let reading = match read_lot(file, space) {
             Ok(reading) => reading,
             Err(number) => return refused_lot(file, number),
@@ -323,7 +323,7 @@ impl Reads for Second {
         lay(&reading.lot.elements, elements);
         lay(&groups.names, names);
         lay(&groups.lengths, lengths);
-        lay(&groups.befores, befores);
+        lay(&groups.offsets, offsets);
         ReadLot {
             number: 0,
             nodes: (reading.lot.nodes.len() / NODE_WORDS) as u32,

@@ -77,7 +77,7 @@ fn put_run<T: fmt::Display>(f: &mut fmt::Formatter<'_>, run: &[T]) -> fmt::Resul
 fn put_groups(f: &mut fmt::Formatter<'_>, groups: &Groups) -> fmt::Result {
     put_run(f, &groups.names)?;
     put_run(f, &groups.lengths)?;
-    put_run(f, &groups.befores)
+    put_run(f, &groups.offsets)
 }
 
 /// One line: a word for the service, then numbers; first those that say how it is
@@ -161,7 +161,7 @@ impl Numbers<'_> {
     }
 
     fn groups(&mut self) -> Option<Groups> {
-        Some(Groups { names: self.run()?, lengths: self.run()?, befores: self.run()? })
+        Some(Groups { names: self.run()?, lengths: self.run()?, offsets: self.run()? })
     }
 
     fn lot(&mut self) -> Option<Lot> {

@@ -597,7 +597,7 @@ fn questions_read_back() {
         Question::Name {
             element: u32::MAX,
             label: b"ab".to_vec(),
-            groups: Groups { names: vec![255], lengths: vec![0, 9], befores: vec![u32::MAX] },
+            groups: Groups { names: vec![255], lengths: vec![0, 9], offsets: vec![u32::MAX] },
         },
         Question::Slip { file: vec![0] },
         Question::Slip { file: b"LB\x01\0~EN\0\0".to_vec() },

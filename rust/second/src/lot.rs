@@ -91,7 +91,7 @@ fn is_wrong(byte: &u8) -> bool {
 pub struct Groups {
     pub names: Vec<u8>,
     pub lengths: Vec<u32>,
-    pub befores: Vec<u32>,
+    pub offsets: Vec<u32>,
 }
 
 impl Groups {
@@ -99,7 +99,7 @@ impl Groups {
     pub fn push(&mut self, before: u32, name: &[u8]) {
         self.names.extend(name);
         self.lengths.push(name.len() as u32);
-        self.befores.push(before);
+        self.offsets.push(before);
     }
 
     /// Of each group the count of elements before it and where its name stands,
@@ -112,7 +112,7 @@ impl Groups {
             end = start.saturating_add(length as usize).min(self.names.len());
             start..end
         });
-        self.befores.iter().copied().zip(places)
+        self.offsets.iter().copied().zip(places)
     }
 
     /// Where the name stands that an element, counted from 0, has from its group;
@@ -173,8 +173,8 @@ impl Lot {
 
     /// The least space in which the lot fits.
     pub fn needs(&self) -> Space {
-        let Groups { names, lengths, befores } = &self.groups;
-        [self.nodes.len(), self.elements.len(), names.len(), lengths.len(), befores.len()]
+        let Groups { names, lengths, offsets } = &self.groups;
+        [self.nodes.len(), self.elements.len(), names.len(), lengths.len(), offsets.len()]
     }
 }
 

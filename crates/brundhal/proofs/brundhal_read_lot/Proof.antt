@@ -4,10 +4,10 @@ use mathlib.Core.List.{List, [], _∷_, _++_}
 use Prim.Native.Nat.{ℕ, _≤_}
 use native.Mathlib.Omega.{arith}
 use lib.ListN.{getD, length, take, drop}
-use Rattle.lotfile.specs.NumberLaws.{bytes-by-place}
-use Rattle.lotfile.specs.Format.{lotFile}
-use Rattle.lotfile.specs.Reading.{readInto, handedOut, labelPlace, readingNumbers}
-use Rattle.lotfile.specs.Accepted.{handed-label-short}
+use Rattle.lot_format.specs.NumberLaws.{bytes-by-place}
+use Rattle.lot_format.specs.Format.{lotFile}
+use Rattle.lot_format.specs.Reading.{readInto, handedOut, labelPlace, readingNumbers}
+use Rattle.lot_format.specs.Accepted.{handed-label-short}
 use Rattle.brundhal.specs.Meaning.{labelStart}
 use Rattle.brundhal.proofs.Label.{start-is-place, label-in-file}
 use borrow.Author.Needs.{needs}
@@ -37,7 +37,7 @@ label-start-requires c κs = search needs
 
 cast-t37 : tie.Need-cast-t37
 cast-t37 c =
-    let short : length (handedOut (readInto lotFile (c .before .before .before .before .before .before .before .before .before .before .before .before .before .before .before .before .before .before .before .before .before .before .args .file .now) (c .before .before .before .before .before .before .before .before .before .before .before .before .before .before .before .before .before .before .before .before .before .before .args .nodes .now) (c .before .before .before .before .before .before .before .before .before .before .before .before .before .before .before .before .before .before .before .before .before .before .args .elements .now) (c .before .before .before .before .before .before .before .before .before .before .before .before .before .before .before .before .before .before .before .before .before .before .args .names .now) (c .before .before .before .before .before .before .before .before .before .before .before .before .before .before .before .before .before .before .before .before .before .before .args .lengths .now) (c .before .before .before .before .before .before .before .before .before .before .before .before .before .before .before .before .before .before .before .before .before .before .args .befores .now)) .label) ≤ 32 = handed-label-short lotFile (c .before .before .before .before .before .before .before .before .before .before .before .before .before .before .before .before .before .before .before .before .before .before .args .file .now) _ (bytes-by-place (c .before .before .before .before .before .before .before .before .before .before .before .before .before .before .before .before .before .before .before .before .before .before .args .file .now) (λ i. omega (arith, c .before .before .before .before .before .before .before .before .before .before .before .before .before .before .before .before .before .before .before .before .before .shared-slice-known .given i))) in
+    let short : length (handedOut (readInto lotFile (c .before .before .before .before .before .before .before .before .before .before .before .before .before .before .before .before .before .before .before .before .before .before .args .file .now) (c .before .before .before .before .before .before .before .before .before .before .before .before .before .before .before .before .before .before .before .before .before .before .args .nodes .now) (c .before .before .before .before .before .before .before .before .before .before .before .before .before .before .before .before .before .before .before .before .before .before .args .elements .now) (c .before .before .before .before .before .before .before .before .before .before .before .before .before .before .before .before .before .before .before .before .before .before .args .names .now) (c .before .before .before .before .before .before .before .before .before .before .before .before .before .before .before .before .before .before .before .before .before .before .args .lengths .now) (c .before .before .before .before .before .before .before .before .before .before .before .before .before .before .before .before .before .before .before .before .before .before .args .offsets .now)) .label) ≤ 32 = handed-label-short lotFile (c .before .before .before .before .before .before .before .before .before .before .before .before .before .before .before .before .before .before .before .before .before .before .args .file .now) _ (bytes-by-place (c .before .before .before .before .before .before .before .before .before .before .before .before .before .before .before .before .before .before .before .before .before .before .args .file .now) (λ i. omega (arith, c .before .before .before .before .before .before .before .before .before .before .before .before .before .before .before .before .before .before .before .before .before .shared-slice-known .given i))) in
     omega (arith, short, ap length (c .before .before .before .before .before .before .before .before .before .before .read .ensures .0))
 
 same-length : tie.Need-same-length
@@ -59,7 +59,7 @@ returns : tie.Need-returns
 unfolding readingNumbers
 returns c =
     let read = c .before .before .before .before .before .before .before .before .before .before .read .ensures in
-    let answer = readInto lotFile (c .before .before .before .before .before .before .before .before .before .before .before .before .before .before .before .before .before .before .before .before .before .before .args .file .now) (c .before .before .before .before .before .before .before .before .before .before .before .before .before .before .before .before .before .before .before .before .before .before .args .nodes .now) (c .before .before .before .before .before .before .before .before .before .before .before .before .before .before .before .before .before .before .before .before .before .before .args .elements .now) (c .before .before .before .before .before .before .before .before .before .before .before .before .before .before .before .before .before .before .before .before .before .before .args .names .now) (c .before .before .before .before .before .before .before .before .before .before .before .before .before .before .before .before .before .before .before .before .before .before .args .lengths .now) (c .before .before .before .before .before .before .before .before .before .before .before .before .before .before .before .before .before .before .before .before .before .before .args .befores .now) in
+    let answer = readInto lotFile (c .before .before .before .before .before .before .before .before .before .before .before .before .before .before .before .before .before .before .before .before .before .before .args .file .now) (c .before .before .before .before .before .before .before .before .before .before .before .before .before .before .before .before .before .before .before .before .before .before .args .nodes .now) (c .before .before .before .before .before .before .before .before .before .before .before .before .before .before .before .before .before .before .before .before .before .before .args .elements .now) (c .before .before .before .before .before .before .before .before .before .before .before .before .before .before .before .before .before .before .before .before .before .before .args .names .now) (c .before .before .before .before .before .before .before .before .before .before .before .before .before .before .before .before .before .before .before .before .before .before .args .lengths .now) (c .before .before .before .before .before .before .before .before .before .before .before .before .before .before .before .before .before .before .before .before .before .before .args .offsets .now) in
     let words = read .1 .1 .1 .1 .1 .1 .0 in
     let start : c .label-start .result ≡ labelPlace answer = c .label-start .ensures ∙ ap (λ (l : List ℕ). labelStart (getD l 0 0)) words ∙ start-is-place answer in
     let len : length (c .before .before .before .before .before .before .before .before .before .before .read .result .now) ≡ length (handedOut answer .label) = ap length (read .0) in (

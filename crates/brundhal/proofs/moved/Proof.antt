@@ -1,6 +1,6 @@
 -- `brundhal::moved` meets its contract: by the answer's cases. Assumes nothing.
 use mathlib.Core.Path.{sym, ap}
-use Rattle.address.specs.Meaning.{moveOf}
+use Rattle.cell_address.specs.Meaning.{moveOf}
 use borrow.Author.Needs.{needs}
 use Rattle.brundhal.proofs.moved.Statement.{statement}
 use Rattle.brundhal.proofs.moved.Tie as tie

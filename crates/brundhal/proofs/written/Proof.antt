@@ -3,8 +3,8 @@ use mathlib.Core.Path.{sym, _∙_, ap, subst}
 use mathlib.Core.List.{[], _∷_}
 use Prim.Native.Nat.{ℕ}
 use native.Mathlib.Omega.{arith}
-use Rattle.writer.specs.declared.Written.{Written}
-use Rattle.writer.specs.Meaning.{writtenHeld}
+use Rattle.lot_writer.specs.declared.Written.{Written}
+use Rattle.lot_writer.specs.Meaning.{writtenHeld}
 use Rattle.brundhal.specs.Meaning.{answerNumbers, ShortAnswer}
 use borrow.Author.Needs.{needs}
 use Rattle.brundhal.proofs.written.Statement.{statement}

@@ -6,9 +6,9 @@ use mir.Syntax.{w32, w64}
 use mir.ValLaws.{toZ-ofZ}
 use Rattle.definitions.specs.Limits.{base}
 use Rattle.definitions.specs.Mesh.{bounds}
-use Rattle.verdict.specs.Extremes.{Extremes}
-use Rattle.mesh.specs.Meaning.{firstOf}
-use Rattle.mesh.specs.Elements.{read-within}
+use Rattle.verdict_theory.specs.Extremes.{Extremes}
+use Rattle.mesh_checks.specs.Meaning.{firstOf}
+use Rattle.mesh_checks.specs.Elements.{read-within}
 use Rattle.inspector.specs.Answers.{bounds-deep, bounds-outside, bounds-inside}
 use borrow.Author.Needs.{needs}
 use Rattle.inspector.proofs.bounds_of.Statement.{statement}

@@ -8,12 +8,12 @@ use denote.Ref.{now}
 use Rattle.definitions.specs.Limits.{base}
 use Rattle.definitions.specs.Record.{Fault, faultWords, recordOf}
 use Rattle.definitions.specs.Mesh.{pointsOf, faultOf, elementRecord}
-use Rattle.verdict.specs.Elements.{element-fault, element-points}
-use Rattle.control.specs.Range.{InRange}
-use Rattle.mesh.specs.declared.Element.{Element}
-use Rattle.mesh.specs.declared.Element.the-variants.{Whole}
-use Rattle.mesh.specs.Meaning.{elementOf}
-use Rattle.mesh.specs.Elements.{whole-element, points-gathered, read-within, length-points}
+use Rattle.verdict_theory.specs.Elements.{element-fault, element-points}
+use Rattle.narrow_coefficients.specs.Range.{InRange}
+use Rattle.mesh_checks.specs.declared.Element.{Element}
+use Rattle.mesh_checks.specs.declared.Element.the-variants.{Whole}
+use Rattle.mesh_checks.specs.Meaning.{elementOf}
+use Rattle.mesh_checks.specs.Elements.{whole-element, points-gathered, read-within, length-points}
 use borrow.Author.Needs.{needs}
 use Rattle.inspector.proofs.element.Statement.{statement}
 use Rattle.inspector.proofs.element.Tie as tie

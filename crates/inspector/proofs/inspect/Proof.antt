@@ -4,9 +4,9 @@ use mathlib.Core.Option.{none, some}
 use lib.ListN.{length}
 use denote.Ref.{now}
 use Rattle.definitions.specs.Limits.{base}
-use Rattle.definitions.specs.Mesh.{Refusal, depthTooGreat, badCoordinates, badIndices, badSpace, accepted, refused, inspection, reportAfter}
-use Rattle.mesh.specs.Meaning.{checkOf}
-use Rattle.mesh.specs.Elements.{accepted-mesh}
+use Rattle.definitions.specs.Mesh.{MeshRefusal, depthTooGreat, badCoordinates, badIndices, badSpace, meshAccepted, meshRefused, inspection, reportAfter}
+use Rattle.mesh_checks.specs.Meaning.{checkOf}
+use Rattle.mesh_checks.specs.Elements.{accepted-mesh}
 use Rattle.inspector.specs.Answers.{refusalHere, refused-answer, refused-space, accepted-answer, accepted-space}
 use borrow.Author.Needs.{needs}
 use Rattle.inspector.proofs.inspect.Statement.{statement}
@@ -22,8 +22,8 @@ enum-told c = search needs
 fits : (e : tie.After-enum-told) → refusalHere base (now (e .before .before .before .before .args .coordinates)) (now (e .before .before .before .before .args .indices)) (now (e .before .before .before .before .args .report)) (e .before .before .before .before .args .depth) ≡ none
 fits e = sym (e .before .before .check .ensures) ∙ ap checkOf (e .enum-told .given .1)
 
-refused-as : (s : tie.Start) (r : Refusal) → refusalHere base (now (s .args .coordinates)) (now (s .args .indices)) (now (s .args .report)) (s .args .depth) ≡ some r
-    → (refused r ≡ inspection base (now (s .args .coordinates)) (now (s .args .indices)) (length (now (s .args .report))) (s .args .depth)) × (now (s .args .report) ≡ reportAfter base (now (s .args .coordinates)) (now (s .args .indices)) (now (s .args .report)) (s .args .depth))
+refused-as : (s : tie.Start) (r : MeshRefusal) → refusalHere base (now (s .args .coordinates)) (now (s .args .indices)) (now (s .args .report)) (s .args .depth) ≡ some r
+    → (meshRefused r ≡ inspection base (now (s .args .coordinates)) (now (s .args .indices)) (length (now (s .args .report))) (s .args .depth)) × (now (s .args .report) ≡ reportAfter base (now (s .args .coordinates)) (now (s .args .indices)) (now (s .args .report)) (s .args .depth))
 refused-as s r e = (
   sym (refused-answer base (now (s .args .coordinates)) (now (s .args .indices)) (now (s .args .report)) (s .args .depth) r e),
   sym (refused-space base (now (s .args .coordinates)) (now (s .args .indices)) (now (s .args .report)) (s .args .depth) r e),
@@ -55,7 +55,7 @@ returns : tie.Need-returns
 returns c =
     let e = c .before .before .before in
     let s = e .before .before .before .before in (
-      ap accepted (c .before .write-records .ensures .0) ∙ sym (accepted-answer base (now (s .args .coordinates)) (now (s .args .indices)) (now (s .args .report)) (s .args .depth) (fits e)),
+      ap meshAccepted (c .before .write-records .ensures .0) ∙ sym (accepted-answer base (now (s .args .coordinates)) (now (s .args .indices)) (now (s .args .report)) (s .args .depth) (fits e)),
       c .before .write-records .ensures .1 ∙ sym (accepted-space base (now (s .args .coordinates)) (now (s .args .indices)) (now (s .args .report)) (s .args .depth) (fits e)),
     )
 

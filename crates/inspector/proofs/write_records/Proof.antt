@@ -12,9 +12,9 @@ use denote.Ref.{now}
 use borrow.Author.Needs.{needs}
 use Rattle.definitions.specs.Limits.{base}
 use Rattle.definitions.specs.Mesh.{elementRecord, counted, countsOf}
-use Rattle.verdict.specs.Elements.{total}
-use Rattle.mesh.specs.Report.{kind-natural}
-use Rattle.mesh.specs.Meaning.{countsHeld}
+use Rattle.verdict_theory.specs.Elements.{countsTotal}
+use Rattle.mesh_checks.specs.Report.{kind-natural}
+use Rattle.mesh_checks.specs.Meaning.{countsHeld}
 use Rattle.inspector.specs.Reports.{recordAt, firstRecords, spaceAt, space-length, counts-next, space-last, counts-last-of, part-of, part-length, natural-by, counted-so-far, put-record}
 use Rattle.inspector.proofs.write_records.Statement.{statement}
 use Rattle.inspector.proofs.write_records.Tie as tie
@@ -69,7 +69,7 @@ counted-requires c κs =
     let coordinates = now (s .args .coordinates) in
     let indices = now (s .args .indices) in
     let e = l .loop .e in
-    let counts = ap total (l .loop .inv .2) ∙ counted-so-far base coordinates indices (s .args .depth) e in (
+    let counts = ap countsTotal (l .loop .inv .2) ∙ counted-so-far base coordinates indices (s .args .depth) e in (
       natural-by _ _ (kind-is c) (kind-natural base coordinates (take 8 (drop (8 * e) indices)) (s .args .depth)),
       omega (arith, counts, s .pre .0 .1, w .before .before .loop-test .taken),
     )

@@ -84,17 +84,17 @@ struct LotSpace {
     elements: Fenced<u32>,
     names: Fenced<u8>,
     lengths: Fenced<u32>,
-    befores: Fenced<u32>,
+    offsets: Fenced<u32>,
 }
 
 impl LotSpace {
-    fn new([nodes, elements, names, lengths, befores]: Space) -> LotSpace {
+    fn new([nodes, elements, names, lengths, offsets]: Space) -> LotSpace {
         LotSpace {
             nodes: Fenced::new(nodes),
             elements: Fenced::new(elements),
             names: Fenced::new(names),
             lengths: Fenced::new(lengths),
-            befores: Fenced::new(befores),
+            offsets: Fenced::new(offsets),
         }
     }
 
@@ -104,7 +104,7 @@ impl LotSpace {
             elements: self.elements.lent(),
             names: self.names.lent(),
             lengths: self.lengths.lent(),
-            befores: self.befores.lent(),
+            offsets: self.offsets.lent(),
         }
     }
 }
@@ -126,7 +126,7 @@ pub fn read_words(program: &dyn Reads, file: &[u8], space: Space) -> Words {
     told.space("element word", &space.elements);
     told.space("name byte", &space.names);
     told.space("name's length", &space.lengths);
-    told.space("count before a group", &space.befores);
+    told.space("count before a group", &space.offsets);
     told.run("label byte", label);
     told.done()
 }
@@ -146,24 +146,24 @@ pub fn ample_space(file_len: usize) -> Space {
 
 /// All that is read of a file that is accepted.
 fn whole_lot(program: &dyn Reads, file: &[u8], space: Space) -> Option<Lot> {
-    let [nodes, elements, names, lengths, befores] = space;
+    let [nodes, elements, names, lengths, offsets] = space;
     let (mut nodes, mut names) = (vec![0; nodes], vec![0; names]);
-    let [mut elements, mut lengths, mut befores] =
-        [elements, lengths, befores].map(|words| vec![0; words]);
+    let [mut elements, mut lengths, mut offsets] =
+        [elements, lengths, offsets].map(|words| vec![0; words]);
     let lent = Lent {
         nodes: &mut nodes,
         elements: &mut elements,
         names: &mut names,
         lengths: &mut lengths,
-        befores: &mut befores,
+        offsets: &mut offsets,
     };
     let read = program.read_lot(file, lent);
     nodes.truncate(NODE_WORDS * read.nodes as usize);
     elements.truncate(ELEMENT_WORDS * read.elements as usize);
     names.truncate(read.names as usize);
     lengths.truncate(read.groups as usize);
-    befores.truncate(read.groups as usize);
-    let groups = Groups { names, lengths, befores };
+    offsets.truncate(read.groups as usize);
+    let groups = Groups { names, lengths, offsets };
     let lot = Lot { label: read.label.to_vec(), nodes, elements, groups };
     (read.number == 0).then_some(lot)
 }

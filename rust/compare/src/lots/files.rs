@@ -198,7 +198,7 @@ fn marks() -> Vec<Vec<u8>> {
 fn lengths() -> Vec<Vec<u8>> {
     let few = (0..=40).chain([255, 256, 257]);
     let lengths = few.chain([12 * 256, 32 * 256, 12 * 257, 32 * 257, 33 * 256, 65_535]);
-    let befores = [
+    let offsets = [
         vec![],
         write_label(b"P7"),
         without_end(good(b"P7", 1, 1)),
@@ -207,7 +207,7 @@ fn lengths() -> Vec<Vec<u8>> {
     let mut files = Vec::new();
     for length in lengths {
         for mark in Mark::ALL {
-            for before in &befores {
+            for before in &offsets {
                 let record = write_record(mark.bytes(), length, &vec![b'x'; length.into()]);
                 let file = [&before[..], &record].concat();
                 files.push(file[..before.len() + HEAD_BYTES].to_vec());

@@ -26,11 +26,11 @@ fn bearer(grouped: bool) -> String {
 fn listed() -> Vec<Question> {
     let mut questions = Vec::new();
     for lengths in lists(&[0, 1, 2, u32::MAX], 3) {
-        for befores in lists(&[0, 1, 2], 3) {
+        for offsets in lists(&[0, 1, 2], 3) {
             for names in [&b""[..], b"a", b"abcd"] {
                 for element in 0..=3 {
-                    let (lengths, befores) = (lengths.clone(), befores.clone());
-                    let groups = Groups { names: names.to_vec(), lengths, befores };
+                    let (lengths, offsets) = (lengths.clone(), offsets.clone());
+                    let groups = Groups { names: names.to_vec(), lengths, offsets };
                     questions.push(Question::Name { element, label: b"L".to_vec(), groups });
                 }
             }
@@ -52,7 +52,7 @@ fn of_any_runs(shaker: &mut Shaker) -> Question {
     let groups = Groups {
         names: bytes(shaker, count),
         lengths: any_numbers(shaker, 6),
-        befores: any_numbers(shaker, 6),
+        offsets: any_numbers(shaker, 6),
     };
     Question::Name { element: any_number(shaker), label: random_label(shaker), groups }
 }

@@ -28,7 +28,7 @@ fn in_ample_space(lot: Lot) -> Question {
 
 /// The count of elements before the last group.
 fn last_before(lot: &Lot) -> u32 {
-    lot.groups.befores.last().copied().unwrap_or(0)
+    lot.groups.offsets.last().copied().unwrap_or(0)
 }
 
 /// A fault put into a lot with a node, an element and a group at least; from the
@@ -47,13 +47,13 @@ const SPOILS: [Spoil; 15] = [
     |lot| lot.label.resize(33, b'x'),
     |lot| lot.groups.push(last_before(lot), &[b'x'; 33]),
     // 24
-    |lot| lot.groups.befores.push(last_before(lot)),
+    |lot| lot.groups.offsets.push(last_before(lot)),
     |lot| lot.groups.lengths.push(0),
     |lot| lot.groups.lengths[0] += 1,
     |lot| lot.groups.names.push(b'x'),
     |lot| lot.groups.lengths.iter_mut().for_each(|length| *length = length.wrapping_sub(1 << 31)),
-    |lot| lot.groups.befores.reverse(),
-    |lot| lot.groups.befores.iter_mut().for_each(|before| *before += 1001),
+    |lot| lot.groups.offsets.reverse(),
+    |lot| lot.groups.offsets.iter_mut().for_each(|before| *before += 1001),
     // 3
     |lot| lot.elements.truncate(lot.elements.len() - 1),
     // 2
@@ -89,10 +89,10 @@ fn faults() -> Vec<Question> {
 fn group_lists() -> Vec<Question> {
     let mut questions = Vec::new();
     for lengths in lists(&[0, 1, 2], 3) {
-        for befores in lists(&[0, 1, 2, 3], 3) {
+        for offsets in lists(&[0, 1, 2, 3], 3) {
             for names in 0..=3 {
-                let (lengths, befores) = (lengths.clone(), befores.clone());
-                let groups = Groups { names: b"abc"[..names].to_vec(), lengths, befores };
+                let (lengths, offsets) = (lengths.clone(), offsets.clone());
+                let groups = Groups { names: b"abc"[..names].to_vec(), lengths, offsets };
                 questions.push(in_ample_space(Lot { groups, ..good(b"P7", 1, 2) }));
             }
         }
@@ -113,7 +113,7 @@ fn sums_past_32_bits() -> Vec<Question> {
     let question = |lengths: &[u32]| {
         let sum = lengths.iter().fold(0u32, |sum, &length| sum.wrapping_add(length));
         let names = vec![b'x'; sum as usize];
-        let groups = Groups { names, lengths: lengths.to_vec(), befores: vec![0; lengths.len()] };
+        let groups = Groups { names, lengths: lengths.to_vec(), offsets: vec![0; lengths.len()] };
         in_ample_space(Lot { groups, ..small() })
     };
     lengths.into_iter().map(question).collect()
@@ -218,9 +218,9 @@ fn change(shaker: &mut Shaker, lot: &mut Lot) {
         3 => lot.label.push(byte),
         4 => groups.names.push(byte),
         5 => drop(groups.lengths.pop()),
-        6 => groups.befores.push(one_number),
+        6 => groups.offsets.push(one_number),
         7 => change_one(shaker, &mut groups.lengths),
-        8 => change_one(shaker, &mut groups.befores),
+        8 => change_one(shaker, &mut groups.offsets),
         9 => groups.push((lot.elements.len() / ELEMENT_WORDS) as u32, &[byte; 3]),
         10 => {
             let name = random_label(shaker);
@@ -247,7 +247,7 @@ fn any_runs(shaker: &mut Shaker) -> Question {
     let groups = Groups {
         names: any_label(shaker, 12),
         lengths: any_numbers(shaker, 3),
-        befores: any_numbers(shaker, 3),
+        offsets: any_numbers(shaker, 3),
     };
     let [nodes, elements] = [NODE_WORDS, ELEMENT_WORDS].map(|words| {
         let off = if once_in(shaker, 8) { below(shaker, words) } else { 0 };

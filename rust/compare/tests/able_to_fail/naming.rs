@@ -42,14 +42,14 @@ struct Wrong(Option<Fault>);
 impl Wrong {
     /// Both lists, as far as they are read.
     fn lists(&self, groups: &Groups) -> Vec<(u32, u32)> {
-        let (mut lengths, mut befores) = (groups.lengths.clone(), groups.befores.clone());
+        let (mut lengths, mut offsets) = (groups.lengths.clone(), groups.offsets.clone());
         match self.0 {
-            Some(Fault::CountsMissingAreZero) => befores.resize(lengths.len(), 0),
-            Some(Fault::LengthsMissingAreZero) => lengths.resize(befores.len(), 0),
-            Some(Fault::DifferentListsHaveNone) if lengths.len() != befores.len() => return vec![],
+            Some(Fault::CountsMissingAreZero) => offsets.resize(lengths.len(), 0),
+            Some(Fault::LengthsMissingAreZero) => lengths.resize(offsets.len(), 0),
+            Some(Fault::DifferentListsHaveNone) if lengths.len() != offsets.len() => return vec![],
             _ => {}
         }
-        lengths.into_iter().zip(befores).collect()
+        lengths.into_iter().zip(offsets).collect()
     }
 
     /// The names of the groups, each with its count of elements before.

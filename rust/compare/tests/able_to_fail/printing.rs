@@ -83,7 +83,7 @@ impl Wrong {
             Some(Fault::LabelOfEveryElement) => &lot.label,
             Some(Fault::NameOfTheGroupBefore) if element > 0 => lot.name_of(element - 1),
             Some(Fault::EmptyGroupPrintsNothing)
-                if lot.groups.befores.first().is_some_and(|&before| before <= element)
+                if lot.groups.offsets.first().is_some_and(|&before| before <= element)
                     && lot.groups.name_of(element).is_none() =>
             {
                 b""

@@ -304,7 +304,7 @@ impl Wrong {
         let groups = &mut seen.lot.groups;
         match self.0 {
             Some(Fault::EmptyGroupsDropped) if name.is_empty() => {}
-            Some(Fault::OneGroupToAPlace) if groups.befores.last() == Some(&before) => {}
+            Some(Fault::OneGroupToAPlace) if groups.offsets.last() == Some(&before) => {}
             Some(Fault::BeforesFromOne) => groups.push(before + 1, name),
             Some(Fault::BeforesInWords) => groups.push(8 * before, name),
             _ => groups.push(before, name),
@@ -337,8 +337,8 @@ impl Wrong {
             Mark::Group => self.take_group(seen, body),
             Mark::End if self.is(Fault::GroupAfterTheLastDropped) => {
                 let last = lot.elements.len() as u32 / 8;
-                lot.groups.befores.retain(|&before| before < last);
-                lot.groups.lengths.truncate(lot.groups.befores.len());
+                lot.groups.offsets.retain(|&before| before < last);
+                lot.groups.lengths.truncate(lot.groups.offsets.len());
                 let kept: u32 = lot.groups.lengths.iter().sum();
                 lot.groups.names.truncate(kept as usize);
             }
@@ -476,9 +476,9 @@ impl Wrong {
 
 impl Reads for Wrong {
     fn read_lot<'a>(&self, file: &'a [u8], lent: Lent) -> ReadLot<'a> {
-        let Lent { nodes, elements, names, lengths, befores } = lent;
+        let Lent { nodes, elements, names, lengths, offsets } = lent;
         let mut seen = Seen::default();
-        let space = [nodes.len(), elements.len(), names.len(), lengths.len(), befores.len()];
+        let space = [nodes.len(), elements.len(), names.len(), lengths.len(), offsets.len()];
         let number = match (self.0, self.read(file, space, &mut seen)) {
             (Some(Fault::RefusesAll), _) => 22,
             (Some(Fault::AcceptsAll), _) => 0,
@@ -489,7 +489,7 @@ impl Reads for Wrong {
         self.hand_out(ELEMENTS, number, seen_elements, elements);
         self.hand_out(NAMES, number, &groups.names, names);
         self.hand_out(LENGTHS, number, &groups.lengths, lengths);
-        self.hand_out(BEFORES, number, &groups.befores, befores);
+        self.hand_out(BEFORES, number, &groups.offsets, offsets);
         let [nodes, elements, groups, names] = self.counts(number, &seen);
         let label = self.label(file, number, seen.label);
         ReadLot { number, nodes, elements, groups, names, label }

@@ -96,7 +96,7 @@ impl Wrong {
     }
 
     fn unfit(&self, lot: &Lot) -> bool {
-        let (lengths, befores) = (&lot.groups.lengths, &lot.groups.befores);
+        let (lengths, offsets) = (&lot.groups.lengths, &lot.groups.offsets);
         let elements = lot.elements.len() / 8;
         let mut sum: u64 = lengths.iter().map(|&length| u64::from(length)).sum();
         if self.is(Fault::SumOf32Bits) {
@@ -112,10 +112,10 @@ impl Wrong {
             Some(Fault::CountAtTheElementsRefused) => *before as usize >= elements,
             _ => *before as usize > elements,
         };
-        (lengths.len() != befores.len() && !self.is(Fault::ListsOfAnyLength))
+        (lengths.len() != offsets.len() && !self.is(Fault::ListsOfAnyLength))
             || (sum != lot.groups.names.len() as u64 && !self.is(Fault::SumNotTested))
-            || befores.windows(2).any(falls)
-            || befores.iter().any(passes)
+            || offsets.windows(2).any(falls)
+            || offsets.iter().any(passes)
     }
 
     fn wrong_length(&self, lot: &Lot) -> bool {

@@ -37,7 +37,7 @@ pub(super) fn small() -> Lot {
         label: b"P7".to_vec(),
         nodes: NODE.to_vec(),
         elements: ELEMENT.to_vec(),
-        groups: Groups { names: b"ab ~".to_vec(), lengths: vec![1, 0, 3], befores: vec![0, 0, 1] },
+        groups: Groups { names: b"ab ~".to_vec(), lengths: vec![1, 0, 3], offsets: vec![0, 0, 1] },
     }
 }
 
@@ -305,9 +305,9 @@ fn names_of_elements() {
 /// Groups of any kind: read as far as both lists go, names cut where they end.
 #[test]
 fn names_of_groups_that_do_not_fit_together() {
-    let name = |names: &[u8], lengths: &[u32], befores: &[u32], element: u32| {
-        let (names, lengths, befores) = (names.to_vec(), lengths.to_vec(), befores.to_vec());
-        Groups { names, lengths, befores }.name_of(element)
+    let name = |names: &[u8], lengths: &[u32], offsets: &[u32], element: u32| {
+        let (names, lengths, offsets) = (names.to_vec(), lengths.to_vec(), offsets.to_vec());
+        Groups { names, lengths, offsets }.name_of(element)
     };
     assert_eq!(name(b"", &[], &[], 0), None);
     assert_eq!(name(b"ab", &[1, 1], &[0], 9), Some(0..1));

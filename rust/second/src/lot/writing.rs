@@ -83,12 +83,12 @@ impl Lot {
 /// 01: "lists of different length, lengths that don't add up to the names, or a
 /// count that falls or passes the elements, are 24."
 fn fit_together(groups: &Groups, elements: usize) -> bool {
-    let Groups { names, lengths, befores } = groups;
+    let Groups { names, lengths, offsets } = groups;
     let sum: u128 = lengths.iter().map(|&length| u128::from(length)).sum();
-    lengths.len() == befores.len()
+    lengths.len() == offsets.len()
         && sum == names.len() as u128
-        && befores.windows(2).all(|pair| pair[0] <= pair[1])
-        && befores.iter().all(|&before| before as usize <= elements)
+        && offsets.windows(2).all(|pair| pair[0] <= pair[1])
+        && offsets.iter().all(|&before| before as usize <= elements)
 }
 
 /// Writes a lot file for lent space of this many bytes; the number of the refusal

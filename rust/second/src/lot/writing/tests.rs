@@ -107,9 +107,9 @@ fn elements_no_multiple_of_8_3() {
 }
 
 /// Groups that are refused, of a lot with two elements.
-fn expect_unfit(names: &[u8], lengths: &[u32], befores: &[u32]) {
+fn expect_unfit(names: &[u8], lengths: &[u32], offsets: &[u32]) {
     let groups =
-        Groups { names: names.to_vec(), lengths: lengths.to_vec(), befores: befores.to_vec() };
+        Groups { names: names.to_vec(), lengths: lengths.to_vec(), offsets: offsets.to_vec() };
     expect_refusal(&Lot { groups, ..lot(b"P7", 1, 2) }, 24);
 }
 
@@ -190,7 +190,7 @@ fn the_first_fault_in_the_order_decides() {
     let faults: [(u32, Spoil); 8] = [
         (2, |lot| lot.nodes.truncate(3 * 1845 - 1)),
         (3, |lot| lot.elements.truncate(8 * 1000 + 1)),
-        (24, |lot| lot.groups.befores[0] = 2000),
+        (24, |lot| lot.groups.offsets[0] = 2000),
         (23, |lot| lot.label.resize(33, b'x')),
         (23, |lot| lot.groups.push(1001, &[b'x'; 33])),
         (25, |lot| lot.label[0] = 31),

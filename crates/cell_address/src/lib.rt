@@ -1,0 +1,134 @@
+// Cell addresses and their moves.
+// The reference cube is the cell of level 0, and a cell cut into eight gives cells one level finer (document 01 says "cube" for a cell
+// of any level). The crate offers `Address` with the moves `child`, `corner` and `parent`. Each takes the address by value and hands back
+// the moved one, or the same one where the move can't be made. `side` is the rule by which corners and children are numbered. The
+// moves and `side` ask nothing of the caller: any address and any number is answered, as `childAddress`, `cornerAddress`, `parentAddress` and `side` of the
+// definitions say.
+ghost use mathlib.Core.Path.{_≡_};
+ghost use Prim.Native.Nat.{_^_, _<_, _≤_};
+ghost use Rattle.definitions.specs.Limits.{base};
+ghost use Rattle.definitions.specs.Jacobian.{side as sideOf};
+ghost use Rattle.definitions.specs.Address.{isCell, isCorner, childAddress, cornerAddress, parentAddress};
+ghost use Rattle.cell_address.specs.Meaning.{addressOf, moveOf, offsetBy};
+
+// The finest level that a cell may have.
+pub const MAX_DEPTH: u32 = 3;
+
+// A level and the grid numbers of a point, in steps of 1/2^level: of a cell its lowest corner.
+pub struct Address {
+    pub level: u32,
+    pub a: u32,
+    pub b: u32,
+    pub c: u32,
+}
+
+// The answer of a move.
+pub enum Moved {
+    // The move was made, and led to this address.
+    To(Address),
+    // The move can't be made from this address.
+    Not(Address),
+}
+
+// 2^level: how many cells of a level stand along an axis.
+fn grid_size(level: u32) -> u32
+    requires { ⌜ level ≤ base .depth ⌝ }
+    ensures { λ r. ⌜ r ≡ 2 ^ level ⌝ }
+{
+    1 << level
+}
+
+// Whether n numbers a corner or a child: 1 to 8.
+fn is_corner(n: u32) -> bool
+    ensures { λ r. ⌜ r ≡ isCorner n ⌝ }
+{
+    (1 <= n) & (n <= 8)
+}
+
+// The side, 0 or 1, of corner k, 0 to 7, in direction 0, 1 or 2; a larger direction counts as 2, and a larger k has side 0.
+pub fn side(d: u32, k: u32) -> u32
+    ensures { λ r. ⌜ (r ≡ sideOf d k) × (r ≤ 1) ⌝ }
+{
+    if 8 <= k {
+        return 0;
+    }
+    if d == 0 {
+        return (k + 1) / 2 % 2;
+    }
+    if d == 1 {
+        return k / 2 % 2;
+    }
+    k / 4
+}
+
+impl Address {
+    // Whether the address is a cell's: its level is at most the largest depth, and each grid number is below 2^level.
+    fn is_cell(self) -> bool
+        ensures { λ r. ⌜ r ≡ isCell (base .depth) (addressOf self) ⌝ }
+    {
+        if MAX_DEPTH < self.level {
+            return false;
+        }
+        let size = grid_size(self.level);
+        (self.a < size) & ((self.b < size) & (self.c < size))
+    }
+
+    // The address with the place of corner n, 0 or 1 on each axis, added to grid numbers that leave room for it.
+    fn offset(self, n: u32) -> Address
+        requires { ⌜ (1 ≤ n) × (n ≤ 8) ⌝ }
+        requires { ⌜ (self .a < 2 ^ 31) × ((self .b < 2 ^ 31) × (self .c < 2 ^ 31)) ⌝ }
+        ensures { λ r. ⌜ addressOf r ≡ offsetBy (addressOf self) n ⌝ }
+    {
+        let k = n - 1;
+        Address {
+            level: self.level,
+            a: self.a + side(0, k),
+            b: self.b + side(1, k),
+            c: self.c + side(2, k),
+        }
+    }
+
+    // Child n, 1 to 8, of a cell that is not of the finest level: one level finer, at twice the grid numbers plus its place.
+    pub fn child(self, n: u32) -> Moved
+        ensures { λ r. ⌜ moveOf r ≡ childAddress (base .depth) (addressOf self) n ⌝ }
+    {
+        if self.is_cell() & ((self.level < MAX_DEPTH) & is_corner(n)) {
+            let doubled = Address {
+                level: self.level + 1,
+                a: 2 * self.a,
+                b: 2 * self.b,
+                c: 2 * self.c,
+            };
+            Moved::To(doubled.offset(n))
+        } else {
+            Moved::Not(self)
+        }
+    }
+
+    // Corner n, 1 to 8, of a cell: a grid point of the cell's level, whose numbers may reach 2^level.
+    pub fn corner(self, n: u32) -> Moved
+        ensures { λ r. ⌜ moveOf r ≡ cornerAddress (base .depth) (addressOf self) n ⌝ }
+    {
+        if self.is_cell() & is_corner(n) {
+            Moved::To(self.offset(n))
+        } else {
+            Moved::Not(self)
+        }
+    }
+
+    // The parent of a cell that is not the whole: one level coarser, at half the grid numbers, rounded down.
+    pub fn parent(self) -> Moved
+        ensures { λ r. ⌜ moveOf r ≡ parentAddress (base .depth) (addressOf self) ⌝ }
+    {
+        if self.is_cell() & (1 <= self.level) {
+            Moved::To(Address {
+                level: self.level - 1,
+                a: self.a / 2,
+                b: self.b / 2,
+                c: self.c / 2,
+            })
+        } else {
+            Moved::Not(self)
+        }
+    }
+}

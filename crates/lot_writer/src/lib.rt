@@ -1,0 +1,222 @@
+// Writing a lot file: the service `write`. Nothing has to be checked first: it takes any runs and any lent space, and states its whole
+// answer, every byte of lent space included, as an equation with `Writing` of the crate `lotfile` at the limits `lotFile`.
+// All is tested first, in the order of the definitions' `tests`; then the file is written entry by entry.
+
+ghost use mathlib.Core.Path.{_≡_};
+ghost use mathlib.Core.Bool.{_&&_};
+ghost use lib.Dec.{eqb, leb};
+ghost use lib.ListN.{length};
+ghost use Rattle.foundation.specs.Lists.{sum};
+ghost use Rattle.foundation.specs.Laid.{laidOver};
+ghost use Rattle.lot_format.specs.Format.{lotFile, nameBytes, written};
+ghost use Rattle.lot_format.specs.Runs.{lotFrom};
+ghost use Rattle.lot_format.specs.Writing.{rising, allUpTo, writing, fileOf};
+ghost use Rattle.lot_roundtrip_theory.specs.Lengths.{lengthBy};
+ghost use Rattle.lot_roundtrip_theory.specs.Tests.{Writable};
+ghost use Rattle.bytes_output.specs.Behind.{Laid};
+ghost use Rattle.lot_writer.specs.Meaning.{runs, writtenHeld, answerOf, capped};
+
+// Why runs are not written.
+pub enum Unwritable {
+    PartialNode,
+    PartialElement,
+    GroupsApart,
+    NameTooLong,
+    BadByte,
+    TooManyElements,
+    TooLong,
+    NoRoom,
+}
+
+// The answer: how many bytes were written, or why none was.
+pub enum Written {
+    Length(usize),
+    Refused(Unwritable),
+}
+
+// Whether lengths add up to n.
+fn add_up(lengths: &[u32], n: usize) -> bool
+    ensures { λ r. ⌜ r ≡ eqb (sum (now (lengths .entry))) n ⌝ }
+{
+    let mut left = n;
+    for k in 0..lengths.len() {
+        let length = lengths[k] as usize;
+        if left < length {
+            return false;
+        }
+        left -= length;
+    }
+    left == 0
+}
+
+// Whether counts don't fall and don't pass n.
+fn rise(offsets: &[u32], n: usize) -> bool
+    ensures { λ r. ⌜ r ≡ rising 0 n (now (offsets .entry)) ⌝ }
+{
+    let mut low = 0;
+    for k in 0..offsets.len() {
+        let before = offsets[k] as usize;
+        if before < low {
+            return false;
+        }
+        if n < before {
+            return false;
+        }
+        low = before;
+    }
+    true
+}
+
+// Whether no length passes n.
+fn up_to(lengths: &[u32], n: usize) -> bool
+    ensures { λ r. ⌜ r ≡ allUpTo n (now (lengths .entry)) ⌝ }
+{
+    for k in 0..lengths.len() {
+        if n < lengths[k] as usize {
+            return false;
+        }
+    }
+    true
+}
+
+// Whether groups fit together, where there are so many bytes of names and so many elements.
+fn fit_together(lengths: &[u32], offsets: &[u32], names: usize, elements: usize) -> bool
+    ensures { λ r. ⌜ r ≡ (eqb (length (now (lengths .entry))) (length (now (offsets .entry))) && (eqb (sum (now (lengths .entry))) names && rising 0 elements (now (offsets .entry)))) ⌝ }
+{
+    if lengths.len() != offsets.len() {
+        return false;
+    }
+    if !add_up(lengths, names) {
+        return false;
+    }
+    rise(offsets, elements)
+}
+
+// Whether the label and the names are short enough.
+fn short_names(label: usize, lengths: &[u32]) -> bool
+    ensures { λ r. ⌜ r ≡ (leb label (lotFile .name) && allUpTo (lotFile .name) (now (lengths .entry))) ⌝ }
+{
+    if lot_entry_reader::MAX_NAME < label {
+        return false;
+    }
+    up_to(lengths, lot_entry_reader::MAX_NAME)
+}
+
+// Whether all bytes of the label and of the names may stand there.
+fn clean_names(label: &[u8], names: &[u8]) -> bool
+    ensures { λ r. ⌜ r ≡ (nameBytes (now (label .entry)) && nameBytes (now (names .entry))) ⌝ }
+{
+    if !lot_entry_reader::name_bytes(label) {
+        return false;
+    }
+    lot_entry_reader::name_bytes(names)
+}
+
+// A number, or 65,537 where it is larger.
+fn cap(n: usize) -> usize
+    ensures { λ r. ⌜ r ≡ capped n ⌝ }
+{
+    if lot_entry_reader::MAX_BYTES < n {
+        lot_entry_reader::MAX_BYTES + 1
+    } else {
+        n
+    }
+}
+
+// The length of the file of so many bytes of label, nodes, elements, groups and bytes of names, or 65,537 where it is longer.
+fn file_length(label: usize, nodes: usize, elements: usize, groups: usize, names: usize) -> usize
+    ensures { λ r. ⌜ r ≡ capped (lengthBy label nodes elements groups names) ⌝ }
+{
+    cap(8 + cap(label) + 16 * cap(nodes) + 36 * cap(elements) + 4 * cap(groups) + cap(names))
+}
+
+// The answer, before anything is written: the length of the file that fits so many lent bytes, or the first test that fails.
+fn tested(
+    label: &[u8],
+    nodes: &[i32],
+    elements: &[u32],
+    names: &[u8],
+    lengths: &[u32],
+    offsets: &[u32],
+    room: usize,
+) -> Written
+    ensures { λ r. ⌜ writtenHeld r ≡ answerOf (writing lotFile (runs (now (label .entry)) (now (nodes .entry)) (now (elements .entry)) (now (names .entry)) (now (lengths .entry)) (now (offsets .entry))) room) ⌝ }
+{
+    if nodes.len() % 3 != 0 {
+        return Written::Refused(Unwritable::PartialNode);
+    }
+    if elements.len() % 8 != 0 {
+        return Written::Refused(Unwritable::PartialElement);
+    }
+    let together = fit_together(lengths, offsets, names.len(), elements.len() / 8);
+    let short = short_names(label.len(), lengths);
+    if !together {
+        return Written::Refused(Unwritable::GroupsApart);
+    }
+    if !short {
+        return Written::Refused(Unwritable::NameTooLong);
+    }
+    if !clean_names(label, names) {
+        return Written::Refused(Unwritable::BadByte);
+    }
+    if lot_entry_reader::MAX_ELEMENTS < elements.len() / 8 {
+        return Written::Refused(Unwritable::TooManyElements);
+    }
+    let n = file_length(
+        label.len(),
+        nodes.len() / 3,
+        elements.len() / 8,
+        lengths.len(),
+        names.len(),
+    );
+    if lot_entry_reader::MAX_BYTES < n {
+        return Written::Refused(Unwritable::TooLong);
+    }
+    if room < n {
+        return Written::Refused(Unwritable::NoRoom);
+    }
+    Written::Length(n)
+}
+
+// The file of a lot that can be written, from the start of the lent space on.
+fn put_lot(
+    out: &mut [u8],
+    label: &[u8],
+    nodes: &[i32],
+    elements: &[u32],
+    names: &[u8],
+    lengths: &[u32],
+    offsets: &[u32],
+) -> usize
+    requires { ⌜ Writable lotFile (runs (now label) (now nodes) (now elements) (now names) (now lengths) (now offsets)) (length (now out)) ⌝ }
+    ensures { λ r. ⌜ Laid 0 (written (lotFrom (runs (now (label .entry)) (now (nodes .entry)) (now (elements .entry)) (now (names .entry)) (now (lengths .entry)) (now (offsets .entry))))) (now (out .entry)) (now (out .exit)) r ⌝ }
+{
+    let labelled = lot_entry_writer::put_label(out, 0, label);
+    let noded = lot_entry_writer::put_nodes(out, labelled, nodes);
+    let grouped = lot_entry_writer::put_grouped(out, noded, elements, names, lengths, offsets);
+    lot_entry_writer::put_end(out, grouped)
+}
+
+// Writes a lot file. The answer is its length, and the file stands at the start of the lent space, whose other bytes stay as they are.
+// Where a test fails, the answer is the first that does, and no byte is written.
+pub fn write(
+    label: &[u8],
+    nodes: &[i32],
+    elements: &[u32],
+    names: &[u8],
+    lengths: &[u32],
+    offsets: &[u32],
+    out: &mut [u8],
+) -> Written
+    ensures { λ r. ⌜ writtenHeld r ≡ answerOf (writing lotFile (runs (now (label .entry)) (now (nodes .entry)) (now (elements .entry)) (now (names .entry)) (now (lengths .entry)) (now (offsets .entry))) (length (now (out .entry)))) ⌝ }
+    ensures { λ r. ⌜ now (out .exit) ≡ laidOver (fileOf (writing lotFile (runs (now (label .entry)) (now (nodes .entry)) (now (elements .entry)) (now (names .entry)) (now (lengths .entry)) (now (offsets .entry))) (length (now (out .entry))))) (now (out .entry)) ⌝ }
+{
+    let answer = tested(label, nodes, elements, names, lengths, offsets, out.len());
+    match answer {
+        Written::Refused(r) => Written::Refused(r),
+        Written::Length(n) => {
+            put_lot(out, label, nodes, elements, names, lengths, offsets);
+            Written::Length(n)
+        }
+    }
+}

@@ -1,0 +1,166 @@
+-- A cell's children as the code makes them, by halves: what is kept from child to child, and which are known to have no low coefficient.
+use mathlib.Core.Path.{_≡_, refl, sym, _∙_, ap, subst}
+use mathlib.Core.List.{List}
+use Prim.Native.Nat.{ℕ, zero, suc, _+_, _*_, _-_, _/_, _%_, _^_, _<_, _≤_}
+use native.Mathlib.Nat.{le-trans, pow-succ', pow-le-pow-right, zero-lt-suc, mul-assoc, mul-comm, mul-le-mul-left, mul-le-mul-right}
+use native.Mathlib.Omega.{arith}
+use lib.ListN.{length}
+use lib.IntN.{ℤ}
+use Rattle.foundation.specs.Lists.{equal-below}
+use Rattle.definitions.specs.Limits.{base}
+use Rattle.definitions.specs.Jacobian.{side}
+use Rattle.definitions.specs.Subdivision.{halve, child}
+use Rattle.expansion_theory.specs.Cut.{length-halve}
+use Rattle.expansion_theory.specs.Size.{halve-size}
+use Rattle.verdict_theory.specs.Points.{side-small}
+use Rattle.verdict_theory.specs.Commute.{child-by-halves}
+use Rattle.verdict_theory.specs.Clear.{Clear, unblocked-clear, halfOf, quarterOf, childControl, half-clear, quarter-clear}
+use Rattle.narrow_subdivision.specs.Control.{Control, within-more}
+use Rattle.narrow_search.specs.Meaning.{cellOf, lowest, size, Small, Grid, Room}
+use Rattle.narrow_search.specs.Lowest.{clear}
+
+-- ---- which children lie in one half, and in one quarter
+-- the side of child k in ζ changes every four children, that in η every two
+half-kept : (k : ℕ) → k < 8 → side 2 k ≡ side 2 (4 * (k / 4))
+half-kept k h = equal-below (side 2) (λ k. side 2 (4 * (k / 4))) 8 tt k h
+
+quarter-kept : (k : ℕ) → k < 8 → side 1 k ≡ side 1 (2 * (k / 2))
+quarter-kept k h = equal-below (side 1) (λ k. side 1 (2 * (k / 2))) 8 tt k h
+
+-- the child that comes after n that are passed over, or after child k alone
+abbrev pub after : ℕ → ℕ → ℕ
+after k zero = k + 1
+after k (suc n) = k + suc n
+
+pub after-some : (k n : ℕ) → (n ≡ 0 → ⊥) → after k n ≡ k + n
+after-some k zero h = absurd (h refl)
+after-some k (suc n) h = refl
+
+module _ (g : List ℤ) where
+  same-half : (j k : ℕ) → j < 8 → k < 8 → j / 4 ≡ k / 4 → halfOf g j ≡ halfOf g k
+  same-half j k l m e = ap (λ (z : ℕ). halve 2 z g) (half-kept j l ∙ ap (λ (n : ℕ). side 2 (4 * n)) e ∙ sym (half-kept k m))
+
+  same-quarter : (j k : ℕ) → j < 8 → k < 8 → j / 2 ≡ k / 2 → quarterOf g j ≡ quarterOf g k
+  same-quarter j k l m e = let f : j / 4 ≡ k / 4 = omega arith in
+      (λ i. halve 1 ((quarter-kept j l ∙ ap (λ (n : ℕ). side 1 (2 * n)) e ∙ sym (quarter-kept k m)) i) (same-half j k l m f i))
+
+  -- before child k: the half and the quarter are there, except where child k is the first in them
+  pub record Ready (k : ℕ) (half quarter : List ℤ) : Type 0 where
+    pub half-sized : length half ≡ 27
+    pub quarter-sized : length quarter ≡ 27
+    pub half-is : (k % 4 ≡ 0 → ⊥) → half ≡ halfOf g k
+    pub quarter-is : (k % 2 ≡ 0 → ⊥) → quarter ≡ quarterOf g k
+
+  pub ready-first : (half quarter : List ℤ) → length half ≡ 27 → length quarter ≡ 27 → Ready 0 half quarter
+  ready-first half quarter p q = record { half-sized = p; quarter-sized = q; half-is = λ h. absurd (h refl); quarter-is = λ h. absurd (h refl) }
+
+  -- n children from k on are known to have no low coefficient; where none is, the quarter is child k's; and the next child may come
+  pub record Run (k n : ℕ) (half quarter : List ℤ) : Type 0 where
+    pub quarter-is : n ≡ 0 → quarter ≡ quarterOf g k
+    pub clears : (j : ℕ) → k ≤ j → j < k + n → Clear (childControl g j)
+    pub end : k + n ≤ 8
+    pub next : after k n < 8 → Ready (after k n) half quarter
+
+  pub half-length : (k : ℕ) (half : List ℤ) → half ≡ halfOf g k → length half ≡ 27
+  half-length k half e = ap length e ∙ length-halve 2 (side 2 k) g
+
+  pub quarter-length : (k : ℕ) (quarter : List ℤ) → quarter ≡ quarterOf g k → length quarter ≡ 27
+  quarter-length k quarter e = ap length e ∙ length-halve 1 (side 1 k) (halfOf g k)
+
+  module _ (k : ℕ) (h : k < 8) (half quarter : List ℤ) where
+    -- the half has none: four children
+    pub run-four : k % 4 ≡ 0 → half ≡ halfOf g k → length quarter ≡ 27 → Clear half → Run k 4 half quarter
+    run-four z e q p = record {
+      quarter-is = λ n. absurd (omega arith);
+      clears = λ j l m. half-clear g j (subst Clear (e ∙ same-half k j h (omega arith) (omega arith)) p);
+      end = omega arith;
+      next = λ m. record { half-sized = half-length k half e; quarter-sized = q; half-is = λ n. absurd (n (omega arith)); quarter-is = λ n. absurd (n (omega arith)) };
+    }
+
+    -- the quarter has none: two
+    pub run-two : k % 2 ≡ 0 → half ≡ halfOf g k → quarter ≡ quarterOf g k → Clear quarter → Run k 2 half quarter
+    run-two z e f p = record {
+      quarter-is = λ n. absurd (omega arith);
+      clears = λ j l m. quarter-clear g j (subst Clear (f ∙ same-quarter k j h (omega arith) (omega arith)) p);
+      end = omega arith;
+      next = λ m. record { half-sized = half-length k half e; quarter-sized = quarter-length k quarter f; half-is = λ n. e ∙ same-half k (k + 2) h m (omega arith); quarter-is = λ n. absurd (n (omega arith)) };
+    }
+
+    -- not known
+    pub run-none : half ≡ halfOf g k → quarter ≡ quarterOf g k → Run k 0 half quarter
+    run-none e f = record {
+      quarter-is = λ n. f;
+      clears = λ j l m. absurd (omega arith);
+      end = omega arith;
+      next = λ m. record { half-sized = half-length k half e; quarter-sized = quarter-length k quarter f; half-is = λ n. e ∙ same-half k (k + 1) h m (omega arith); quarter-is = λ n. f ∙ same-quarter k (k + 1) h m (omega arith) };
+    }
+
+-- 27 coefficients without a lowest are clear
+pub lowest-clear : (c : List ℤ) → length c ≡ 27 → lowest c ≡ 0 → Clear c
+lowest-clear c h e = unblocked-clear (cellOf 0 0 0 c) h (clear (cellOf 0 0 0 c) e)
+
+-- child k from its quarter
+pub child-made : (g : List ℤ) (k : ℕ) (quarter xs : List ℤ) → quarter ≡ quarterOf g k → xs ≡ halve 0 (side 0 k) quarter → xs ≡ childControl g k
+child-made g k quarter xs e f = f ∙ ap (halve 0 (side 0 k)) e ∙ child-by-halves g k
+
+-- ---- magnitudes
+half-control : (b d h : ℕ) (c : List ℤ) → Control b c → Control (4 * b) (halve d h c)
+half-control b d h c w = record { sized = length-halve d h c; within = halve-size b d h c (w .within) }
+
+control-more : (a b : ℕ) (c : List ℤ) → a ≤ b → Control a c → Control b c
+control-more a b c h w = record { sized = w .sized; within = within-more a b c h (w .within) }
+
+grown : (k x n : ℕ) → k * x * k ^ n ≡ x * k ^ suc n
+grown k x n = ap (λ (m : ℕ). m * k ^ n) (mul-comm k x) ∙ mul-assoc x k (k ^ n) ∙ ap (λ (m : ℕ). x * m) (sym (pow-succ' k n))
+
+-- a cell that is cut, its half and its quarter
+module _ (g : List ℤ) (w : Control (2 ^ 57 - 1) g) where
+  pub cut-control : Control (2 ^ 61 - 1) g
+  cut-control = control-more (2 ^ 57 - 1) (2 ^ 61 - 1) g (omega arith) w
+
+  pub cut-half : (k : ℕ) → Control (2 ^ 61 - 1) (halfOf g k)
+  cut-half k = control-more (4 * (2 ^ 57 - 1)) (2 ^ 61 - 1) (halfOf g k) (omega arith) (half-control (2 ^ 57 - 1) 2 (side 2 k) g w)
+
+  pub cut-quarter : (k : ℕ) → Control (2 ^ 61 - 1) (quarterOf g k)
+  cut-quarter k = control-more (4 * (4 * (2 ^ 57 - 1))) (2 ^ 61 - 1) (quarterOf g k) (omega arith) (half-control (4 * (2 ^ 57 - 1)) 1 (side 1 k) (halfOf g k) (half-control (2 ^ 57 - 1) 2 (side 2 k) g w))
+
+-- and its child
+module _ (g : List ℤ) where
+  pub cut-small : (left : ℕ) → Small g left → (left ≡ 0 → ⊥) → Control (2 ^ 57 - 1) g
+  cut-small zero room some = absurd (some refl)
+  cut-small (suc n) room some = let p : 1 ≤ suc n = omega arith in let q : 64 ^ 1 ≤ 64 ^ suc n = pow-le-pow-right (zero-lt-suc 63) p in
+      let r : room .bound * 64 ≤ size (base .depth) = le-trans (mul-le-mul-left (room .bound) q) (room .small) in
+      let l : room .bound ≤ 2 ^ 57 - 1 = omega (arith, r) in control-more (room .bound) (2 ^ 57 - 1) g l (room .control)
+
+  pub child-small : (left k : ℕ) (xs : List ℤ) → Small g left → (left ≡ 0 → ⊥) → xs ≡ childControl g k → Small xs (left - 1)
+  child-small zero k xs room some e = absurd (some refl)
+  child-small (suc n) k xs room some e = let f : n ≡ suc n - 1 = omega arith in let m : 4 * (4 * (4 * room .bound)) ≡ 64 * room .bound = omega arith in
+      let half = halve 0 (side 0 k) g in let quarter = halve 1 (side 1 k) half in
+      subst (λ (c : List ℤ). Small c (suc n - 1)) (sym e) (subst (Small (childControl g k)) f (record {
+        bound = 64 * room .bound;
+        control = subst (λ (b : ℕ). Control b (childControl g k)) m (half-control (4 * (4 * room .bound)) 2 (side 2 k) quarter (half-control (4 * room .bound) 1 (side 1 k) half (half-control (room .bound) 0 (side 0 k) g (room .control))));
+        small = subst (λ (i : ℕ). i ≤ size (base .depth)) (sym (grown 64 (room .bound) n)) (room .small);
+      }))
+
+-- a grid number can be doubled, and its child's has room
+pub grid-doubled : (x left : ℕ) → Grid x left → (left ≡ 0 → ⊥) → 2 * x + 1 < 2 ^ 32
+grid-doubled x zero h some = absurd (some refl)
+grid-doubled x (suc n) h some = let p : 1 ≤ suc n = omega arith in let q : 2 ^ 1 ≤ 2 ^ suc n = pow-le-pow-right (zero-lt-suc 1) p in let r : (x + 1) * 2 ≤ 2 ^ base .depth = le-trans (mul-le-mul-left (x + 1) q) h in omega arith
+
+child-grid : (x left t : ℕ) → Grid x left → (left ≡ 0 → ⊥) → t < 2 → Grid (2 * x + t) (left - 1)
+child-grid x zero t h some l = absurd (some refl)
+child-grid x (suc n) t h some l = let e : n ≡ suc n - 1 = omega arith in let p : 2 * x + t + 1 ≤ 2 * (x + 1) = omega arith in
+    subst (Grid (2 * x + t)) e (le-trans (mul-le-mul-right (2 ^ n) p) (subst (λ (i : ℕ). i ≤ 2 ^ base .depth) (sym (grown 2 (x + 1) n)) h))
+
+module _ (g : List ℤ) (a b c k x y z : ℕ) (xs : List ℤ) (e : xs ≡ childControl g k) (p : x ≡ side 0 k) (q : y ≡ side 1 k) (r : z ≡ side 2 k) where
+  pub child-room : (left : ℕ) → Room g a b c left → (left ≡ 0 → ⊥) → Room xs (2 * a + x) (2 * b + y) (2 * c + z) (left - 1)
+  child-room left room some = record {
+    small = child-small g left k xs (room .small) some e;
+    a-grid = child-grid a left x (room .a-grid) some (subst (λ (n : ℕ). n < 2) (sym p) (side-small 0 k));
+    b-grid = child-grid b left y (room .b-grid) some (subst (λ (n : ℕ). n < 2) (sym q) (side-small 1 k));
+    c-grid = child-grid c left z (room .c-grid) some (subst (λ (n : ℕ). n < 2) (sym r) (side-small 2 k));
+  }
+
+  pub child-cell : cellOf (2 * a + x) (2 * b + y) (2 * c + z) xs ≡ child (cellOf a b c g) k
+  unfolding child
+  child-cell = λ i. record { a = 2 * a + p i; b = 2 * b + q i; c = 2 * c + r i; control = e i }

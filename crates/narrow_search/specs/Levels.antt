@@ -1,0 +1,117 @@
+-- Pass after pass as the code makes them: the pass of a level, what it comes to, and what holds between passes.
+use mathlib.Core.Path.{_≡_, refl, sym, _∙_, ap, subst}
+use mathlib.Core.Bool.{Bool, true, false, true≢false}
+use mathlib.Core.List.{List}
+use Prim.Native.Nat.{ℕ, zero, suc, _+_, _^_, _<_, _≤_}
+use native.Mathlib.Nat.{pow-le-pow-right, zero-lt-suc, mul-le-mul-left}
+use native.Mathlib.Omega.{arith}
+use lib.IntN.{ℤ}
+use Rattle.definitions.specs.Limits.{base}
+use Rattle.definitions.specs.Coefficients.{coefficients}
+use Rattle.definitions.specs.Subdivision.{Cell, whole}
+use Rattle.definitions.specs.Verdict.{Verdict, valid, invalid, undecided}
+use Rattle.definitions.specs.Record.{verdictWords, recordOf}
+use Rattle.verdict_theory.specs.Search.{Found, nothing, coefficient, point, Pass, pass, visit}
+use Rattle.verdict_theory.specs.Opened.{most}
+use Rattle.verdict_theory.specs.Passes.{Before, before-first, pass-point, pass-nothing, pass-last, pass-on}
+use Rattle.narrow_subdivision.specs.Control.{Control}
+use Rattle.narrow_search.specs.Meaning.{cellOf, passWords, Held, size, Grid, Room}
+use Rattle.narrow_search.specs.Visit.{visit-count}
+
+abbrev pub wholeOf : List ℤ → Cell
+wholeOf g = cellOf 0 0 0 g
+
+-- nothing found yet, n cells opened
+abbrev pub fresh : ℕ → Pass
+fresh n = record { count = n; found = nothing }
+
+abbrev pub isBlocked : Found → Bool
+isBlocked nothing = false
+isBlocked (coefficient f) = true
+isBlocked (point f) = false
+
+abbrev pub outcome : ℕ → Found → Verdict
+outcome l nothing = valid l
+outcome l (coefficient f) = undecided l f
+outcome l (point f) = invalid l f
+
+pub whole-is : (xs g : List ℤ) → g ≡ coefficients xs → wholeOf g ≡ whole xs
+unfolding whole
+whole-is xs g e = ap wholeOf e
+
+-- the pass of level m was made, where the levels before were all blocked
+pub record At (xs : List ℤ) (m : ℕ) (r : Pass) : Type 0 where
+  pub earlier : ℕ
+  pub before : Before xs m earlier
+  pub made : visit m (whole xs) (fresh earlier) ≡ r
+
+module _ (xs g : List ℤ) (e : g ≡ coefficients xs) where
+  at-first : (r : Pass) → r ≡ visit 0 (wholeOf g) (fresh 0) → At xs 0 r
+  at-first r h = record { earlier = 0; before = before-first xs; made = sym (h ∙ ap (λ (s : Cell). visit 0 s (fresh 0)) (whole-is xs g e)) }
+
+  blocked-is : (o : Found) → isBlocked o ≡ true → (m : ℕ) (r : Pass) → r .found ≡ o → At xs m r → Before xs (suc m) (r .count)
+  blocked-is nothing b m r q h = absurd (true≢false (sym b))
+  blocked-is (coefficient f) b m r q h = pass-on xs m (h .earlier) (h .before) (r .count) (r .found) (h .made) f q
+  blocked-is (point f) b m r q h = absurd (true≢false (sym b))
+
+  at-next : (m : ℕ) (r r′ : Pass) → At xs m r → isBlocked (r .found) ≡ true → r′ ≡ visit (m + 1) (wholeOf g) (fresh (r .count)) → At xs (m + 1) r′
+  at-next m r r′ h b k = let p : suc m ≡ m + 1 = omega arith in record {
+    earlier = r .count;
+    before = subst (λ (n : ℕ). Before xs n (r .count)) p (blocked-is (r .found) b m r refl h);
+    made = sym (k ∙ ap (λ (s : Cell). visit (m + 1) s (fresh (r .count))) (whole-is xs g e));
+  }
+
+-- the last pass: of the depth, or one that settles
+pub settled : (xs : List ℤ) (m D : ℕ) (r : Pass) → m ≤ D → At xs m r → (isBlocked (r .found) ≡ true → m ≡ D) → verdictWords (outcome m (r .found)) (r .count) ≡ recordOf xs D
+settled xs m D r l h last = go (r .found) refl
+  where
+    go : (o : Found) → r .found ≡ o → verdictWords (outcome m (r .found)) (r .count) ≡ recordOf xs D
+    go nothing q = ap (λ (o : Found). verdictWords (outcome m o) (r .count)) q ∙ pass-nothing xs m (h .earlier) (h .before) (r .count) (r .found) (h .made) q D l
+    go (coefficient f) q = ap (λ (o : Found). verdictWords (outcome m o) (r .count)) q ∙ pass-last xs m (h .earlier) (h .before) (r .count) (r .found) (h .made) f q ∙ ap (recordOf xs) (last (ap isBlocked q))
+    go (point f) q = ap (λ (o : Found). verdictWords (outcome m o) (r .count)) q ∙ pass-point xs m (h .earlier) (h .before) (r .count) (r .found) (h .made) f q D l
+
+-- ---- the count stays small
+most-next : (m : ℕ) → most (m + 1) ≡ most m + 8 ^ (m + 1)
+most-next m = let p : m + 1 ≡ suc m = omega arith in ap most p ∙ ap (λ (n : ℕ). most m + 8 ^ n) (sym p)
+
+most-room : (m c c′ : ℕ) → c ≤ most m → c′ ≤ c + 8 ^ (m + 1) → c′ ≤ most (m + 1)
+most-room m c c′ h k = omega (arith, most-next m)
+
+most-small : (m : ℕ) → m < 3 → most m ≤ 585
+most-small zero h = omega arith
+most-small (suc zero) h = omega arith
+most-small (suc (suc zero)) h = omega arith
+most-small (suc (suc (suc m))) h = absurd (omega arith)
+
+count-room : (m c : ℕ) → m < base .depth → c ≤ most m → c + 8 ^ (m + 1) < 2 ^ 63
+count-room m c h k = let l : m + 1 ≤ 3 = omega arith in let p : 8 ^ (m + 1) ≤ 8 ^ 3 = pow-le-pow-right (zero-lt-suc 7) l in omega (arith, most-small m h)
+
+-- ---- the whole element has room for every level
+pub whole-room : (g : List ℤ) → Control (size 0) g → (level : ℕ) → level ≤ base .depth → Room g 0 0 0 level
+whole-room g k level h = let grid : Grid 0 level = mul-le-mul-left 1 (pow-le-pow-right (zero-lt-suc 1) h) in
+    record { small = record { bound = size 0; control = k; small = mul-le-mul-left (size 0) (pow-le-pow-right (zero-lt-suc 63) h) }; a-grid = grid; b-grid = grid; c-grid = grid }
+
+pub whole-held : (level m : ℕ) (ws : List ℤ) → ws ≡ passWords (fresh m) → m + 8 ^ level < 2 ^ 63 → Held (8 ^ level) ws
+whole-held level m ws e h = record { pass = fresh m; is = e; room = h }
+
+-- ---- the words between passes
+pub record Made (g : List ℤ) (m : ℕ) (ws : List ℤ) : Type 0 where
+  pub pass : Pass
+  pub is : ws ≡ passWords pass
+  pub few : pass .count ≤ most m
+  pub at : (xs : List ℤ) → g ≡ coefficients xs → At xs m pass
+
+module _ (g : List ℤ) where
+  pub made-first : (ws : List ℤ) → ws ≡ passWords (visit 0 (wholeOf g) (fresh 0)) → Made g 0 ws
+  made-first ws e = record { pass = visit 0 (wholeOf g) (fresh 0); is = e; few = visit-count 0 (wholeOf g) (fresh 0); at = λ xs h. at-first xs g h (visit 0 (wholeOf g) (fresh 0)) refl }
+
+  pub made-next : (m : ℕ) (ws vs : List ℤ) (made : Made g m ws) → isBlocked (made .pass .found) ≡ true → vs ≡ passWords (visit (m + 1) (wholeOf g) (fresh (made .pass .count))) → Made g (m + 1) vs
+  made-next m ws vs made b e = let r = visit (m + 1) (wholeOf g) (fresh (made .pass .count)) in record {
+    pass = r;
+    is = e;
+    few = most-room m (made .pass .count) (r .count) (made .few) (visit-count (m + 1) (wholeOf g) (fresh (made .pass .count)));
+    at = λ xs h. at-next xs g h m (made .pass) r (made .at xs h) b refl;
+  }
+
+pub made-room : (g : List ℤ) (m : ℕ) (ws : List ℤ) → m < base .depth → Made g m ws → Held (8 ^ (m + 1)) ws
+made-room g m ws h made = record { pass = made .pass; is = made .is; room = count-room m (made .pass .count) h (made .few) }

@@ -1,0 +1,295 @@
+// Inner: for the inspector's own crates. The recursive search of an element's cells, and its bounds.
+ghost use mathlib.Core.Path.{_≡_};
+ghost use mathlib.Core.Bool.{false};
+ghost use mathlib.Core.List.{List};
+ghost use Prim.Native.Nat.{ℕ, _+_, _-_, _%_, _^_, _<_, _≤_};
+ghost use lib.ListN.{length, take, getD};
+ghost use lib.IntN.{ℤ, pos, natAbs};
+ghost use Rattle.foundation.specs.Least.{lesser as lesserOf, leastFrom};
+ghost use Rattle.definitions.specs.Limits.{base};
+ghost use Rattle.definitions.specs.Jacobian.{side};
+ghost use Rattle.definitions.specs.Coefficients.{coefficients};
+ghost use Rattle.definitions.specs.Record.{words, verdictWords, recordOf};
+ghost use Rattle.definitions.specs.Subdivision.{halve, Cell};
+ghost use Rattle.verdict_theory.specs.Search.{Pass, ended as hasEnded, openCell, visit as visited};
+ghost use Rattle.verdict_theory.specs.Extremes.{extremes as extremesBelow};
+ghost use Rattle.verdict_theory.specs.Clear.{more, openedClear};
+ghost use Rattle.narrow_subdivision.specs.Control.{Control};
+ghost use Rattle.narrow_search.specs.Meaning.{cellOf, lowest as lowestOf, passWords, Held, Small, Room};
+ghost use Rattle.narrow_search.specs.Children.{Ready, Run};
+ghost use Rattle.narrow_search.specs.Levels.{wholeOf, fresh, isBlocked, outcome};
+ghost use Rattle.narrow_search.specs.Bounds.{extremesOf, withControl, boundsAt};
+ghost use Rattle.narrow_search.specs.Points.{OfPoints};
+
+// The lowest number of a coefficient that is not above 0, from 1; 0 where there is none.
+fn lowest(g: &[i64; 27]) -> usize
+    ensures { λ r. ⌜ (r ≡ lowestOf (now (g .entry))) × (r ≤ 27) ⌝ }
+{
+    for k in 0..27 {
+        let v = g[k];
+        if v <= 0 {
+            return k + 1;
+        }
+    }
+    0
+}
+
+// A pass is lent as eight words, those of a record: what was found (0 nothing, 1 a low corner, 2 a low coefficient), 0, grid numbers,
+// number and value of the finding, and how many cells were opened.
+
+// Whether a low corner was found.
+fn ended(pass: &[i64; 8]) -> bool
+    ensures { λ r. ⌜ ((p : Pass) → now (pass .entry) ≡ passWords p → r ≡ hasEnded (p .found)) ⌝ }
+{
+    let kind = pass[0];
+    kind == 1
+}
+
+// So many cells more were opened.
+fn add_opened(n: u32, pass: &mut [i64; 8])
+    requires { ⌜ Held n (now pass) ⌝ }
+    ensures { λ _. ⌜ ((p : Pass) → now (pass .entry) ≡ passWords p → now (pass .exit) ≡ passWords (more n p)) ⌝ }
+{
+    let count = pass[7];
+    pass[7] = count + n as i64;
+}
+
+// A finding in place of what was found before; kind 0 and zeros, to forget it.
+fn note(kind: u32, a: u32, b: u32, c: u32, number: u32, value: i64, pass: &mut [i64; 8])
+    ensures { λ _. ⌜ ((p : Pass) → now (pass .entry) ≡ passWords p → now (pass .exit) ≡ words kind 0 a b c number value (p .count)) ⌝ }
+{
+    pass[0] = kind as i64;
+    pass[2] = a as i64;
+    pass[3] = b as i64;
+    pass[4] = c as i64;
+    pass[5] = number as i64;
+    pass[6] = value;
+}
+
+// A cell of the last level with a low coefficient, the lowest that of number n: one cell more, and a low corner, or a low coefficient
+// where nothing low was found before.
+fn open_low(g: &[i64; 27], a: u32, b: u32, c: u32, n: usize, pass: &mut [i64; 8])
+    requires { ⌜ Room (now g) a b c 0 × Held 1 (now pass) ⌝ }
+    requires { ⌜ (n ≡ lowestOf (now g)) × (0 < n) × (n ≤ 27) ⌝ }
+    ensures { λ _. ⌜ ((p : Pass) → now (pass .entry) ≡ passWords p → hasEnded (p .found) ≡ false → now (pass .exit) ≡ passWords (openCell (cellOf a b c (now (g .entry))) p)) ⌝ }
+{
+    add_opened(1, pass);
+    let k = n as u32 - 1;
+    let value = g[n - 1];
+    if n <= 8 {
+        note(
+            1,
+            a + cell_address::side(0, k),
+            b + cell_address::side(1, k),
+            c + cell_address::side(2, k),
+            k + 1,
+            value,
+            pass,
+        );
+        return;
+    }
+    let kind = pass[0];
+    if kind == 0 {
+        note(2, a, b, c, k + 1, value, pass);
+    }
+}
+
+// So many cells without a low coefficient, with `left` levels below them: they are opened where they are of the last level.
+fn skip(n: u32, left: u32, pass: &mut [i64; 8])
+    requires { ⌜ Held n (now pass) ⌝ }
+    ensures { λ _. ⌜ ((p : Pass) → now (pass .entry) ≡ passWords p → now (pass .exit) ≡ passWords (more (openedClear n left) p)) ⌝ }
+{
+    if left == 0 {
+        add_opened(n, pass);
+    }
+}
+
+// The half of c in direction d that child k, 0 to 7, lies in: made where child k is the first in it, else there already.
+fn half_at(d: u32, first: bool, c: &[i64; 27], k: u32, out: &mut [i64; 27])
+    requires { ⌜ Control (2 ^ 61 - 1) (now c) × (d < 3) × (length (now out) ≡ 27) ⌝ }
+    requires { ⌜ (first ≡ false → now out ≡ halve d (side d k) (now c)) ⌝ }
+    ensures { λ _. ⌜ now (out .exit) ≡ halve d (side d k) (now (c .entry)) ⌝ }
+{
+    if first {
+        narrow_subdivision::halve(d, cell_address::side(d, k), c, out);
+    }
+}
+
+// How many children from k on are known to have no low coefficient: 4 where their half has none, 2 where their quarter has none. The half
+// is tested where child k is the first in it, and so is the quarter; 0 says nothing, and the quarter is there to make child k from.
+fn clear(g: &[i64; 27], k: u32, half: &mut [i64; 27], quarter: &mut [i64; 27]) -> u32
+    requires { ⌜ Control (2 ^ 57 - 1) (now g) × (k < 8) × Ready (now g) k (now half) (now quarter) ⌝ }
+    ensures { λ n. ⌜ Run (now (g .entry)) k n (now (half .exit)) (now (quarter .exit)) ⌝ }
+{
+    half_at(2, k % 4 == 0, g, k, half);
+    if k % 4 == 0 {
+        if lowest(half) == 0 {
+            return 4;
+        }
+    }
+    half_at(1, k % 2 == 0, half, k, quarter);
+    if k % 2 == 0 {
+        if lowest(quarter) == 0 {
+            return 2;
+        }
+    }
+    0
+}
+
+// The due cells `left` levels below this one, in path order, after what was found before: a cell with a low coefficient is cut into
+// its eight children, by halves, and children that are known to have none are passed over.
+fn visit(g: &[i64; 27], a: u32, b: u32, c: u32, left: u32, pass: &mut [i64; 8])
+    requires { ⌜ Room (now g) a b c left × Held (8 ^ left) (now pass) ⌝ }
+    ensures { λ _. ⌜ ((p : Pass) → now (pass .entry) ≡ passWords p → now (pass .exit) ≡ passWords (visited left (cellOf a b c (now (g .entry))) p)) ⌝ }
+{
+    if ended(pass) {
+        return;
+    }
+    let n = lowest(g);
+    if n == 0 {
+        skip(1, left, pass);
+        return;
+    }
+    if left == 0 {
+        open_low(g, a, b, c, n, pass);
+        return;
+    }
+    let mut half = [0i64; 27];
+    let mut quarter = [0i64; 27];
+    let mut child = [0i64; 27];
+    let mut k: u32 = 0;
+    while k < 8 {
+        if ended(pass) {
+            return;
+        }
+        let over = clear(g, k, &mut half, &mut quarter);
+        if over == 0 {
+            let x = cell_address::side(0, k);
+            let y = cell_address::side(1, k);
+            let z = cell_address::side(2, k);
+            narrow_subdivision::halve(0, x, &quarter, &mut child);
+            visit(&child, 2 * a + x, 2 * b + y, 2 * c + z, left - 1, pass);
+            k += 1;
+        } else {
+            skip(over, left - 1, pass);
+            k += over;
+        }
+    }
+}
+
+// The pass of a level over the whole element, after a pass of which the count of cells stays.
+fn pass_at(g: &[i64; 27], level: u32, pass: &mut [i64; 8])
+    requires { ⌜ OfPoints (now g) × (level ≤ base .depth) × Held (8 ^ level) (now pass) ⌝ }
+    ensures { λ _. ⌜ ((p : Pass) → now (pass .entry) ≡ passWords p → now (pass .exit) ≡ passWords (visited level (wholeOf (now (g .entry))) (fresh (p .count)))) ⌝ }
+{
+    note(0, 0, 0, 0, 0, 0, pass);
+    visit(g, 0, 0, 0, level, pass);
+}
+
+// Whether a pass found a low coefficient and no low corner.
+fn blocked(pass: &[i64; 8]) -> bool
+    ensures { λ b. ⌜ ((p : Pass) → now (pass .entry) ≡ passWords p → b ≡ isBlocked (p .found)) ⌝ }
+{
+    let kind = pass[0];
+    kind == 2
+}
+
+// What the last pass, that of a level, comes to.
+fn settle(level: u32, pass: &mut [i64; 8])
+    ensures { λ _. ⌜ ((p : Pass) → now (pass .entry) ≡ passWords p → now (pass .exit) ≡ verdictWords (outcome level (p .found)) (p .count)) ⌝ }
+{
+    pass[1] = level as i64;
+}
+
+// The record of the eight points with these coefficients: a pass of level 0, 1, .. while only low coefficients are found.
+pub fn record(g: &[i64; 27], depth: u32) -> [i64; 8]
+    requires { ⌜ OfPoints (now g) × (depth ≤ base .depth) ⌝ }
+    ensures { λ w. ⌜ ((xs : List ℤ) → now (g .entry) ≡ coefficients xs → w ≡ recordOf xs depth) ⌝ }
+{
+    let mut m: u32 = 0;
+    let mut r = [0i64; 8];
+    pass_at(g, 0, &mut r);
+    while (m < depth) & blocked(&r) {
+        m += 1;
+        pass_at(g, m, &mut r);
+    }
+    settle(m, &mut r);
+    r
+}
+
+// The least coefficient and the least corner of the cells seen so far.
+pub struct Extremes {
+    pub low: i64,
+    pub high: i64,
+}
+
+fn lesser(x: i64, y: i64) -> i64
+    ensures { λ r. ⌜ r ≡ lesserOf x y ⌝ }
+{
+    if x <= y {
+        return x;
+    }
+    y
+}
+
+// The least of v and the first n coefficients.
+fn least(g: &[i64; 27], n: usize, v: i64) -> i64
+    requires { ⌜ (length (now g) ≡ 27) × (n ≤ 27) ⌝ }
+    ensures { λ r. ⌜ r ≡ leastFrom v (take n (now (g .entry))) ⌝ }
+{
+    let mut r = v;
+    for k in 0..n {
+        let x = g[k];
+        r = lesser(r, x);
+    }
+    r
+}
+
+// One cell more.
+fn with_cell(g: &[i64; 27], r: Extremes) -> Extremes
+    requires { ⌜ length (now g) ≡ 27 ⌝ }
+    ensures { λ s. ⌜ extremesOf s ≡ withControl (now (g .entry)) (extremesOf r) ⌝ }
+{
+    let low = r.low;
+    let high = r.high;
+    Extremes {
+        low: least(g, 27, low),
+        high: least(g, 8, high),
+    }
+}
+
+// The cells `left` levels below this one, after those seen before.
+fn survey(g: &[i64; 27], left: u32, r: Extremes) -> Extremes
+    requires { ⌜ Small (now g) left ⌝ }
+    ensures { λ e. ⌜ ((s : Cell) → s .control ≡ now (g .entry) → extremesOf e ≡ extremesBelow left s (extremesOf r)) ⌝ }
+{
+    if left == 0 {
+        return with_cell(g, r);
+    }
+    let mut half = [0i64; 27];
+    let mut quarter = [0i64; 27];
+    let mut child = [0i64; 27];
+    let mut e = r;
+    for k in 0..8 {
+        half_at(2, k % 4 == 0, g, k, &mut half);
+        half_at(1, k % 2 == 0, &half, k, &mut quarter);
+        narrow_subdivision::halve(0, cell_address::side(0, k), &quarter, &mut child);
+        e = survey(&child, left - 1, e);
+    }
+    e
+}
+
+// Both bounds of the eight points with these coefficients, from the greatest number, which no coefficient passes.
+pub fn bounds(g: &[i64; 27], depth: u32) -> Extremes
+    requires { ⌜ OfPoints (now g) × (depth ≤ base .depth) ⌝ }
+    ensures { λ r. ⌜ ((xs : List ℤ) → now (g .entry) ≡ coefficients xs → ((i : ℕ) → natAbs (getD xs i (pos 0)) ≤ base .range) → extremesOf r ≡ boundsAt xs depth) ⌝ }
+{
+    survey(
+        g,
+        depth,
+        Extremes {
+            low: 9223372036854775807,
+            high: 9223372036854775807,
+        },
+    )
+}

@@ -1,0 +1,21 @@
+-- The starred lines of document 01 at every depth: an undecided record holds at its depth, any other at every greater depth too.
+use mathlib.Core.Path.{_≡_, sym, _∙_, ap, subst}
+use mathlib.Core.Logic.{_⊎_, inl, inr}
+use Prim.Native.Nat.{ℕ, _≤_}
+use lib.IntN.{pos}
+use Rattle.foundation.specs.Lists.{All, all-map}
+use Rattle.definitions.specs.Limits.{base}
+use Rattle.definitions.specs.Mesh.{elementRecord}
+use Rattle.definitions.specs.Examples.{Example, Holds, starred, starred-hold}
+use Rattle.verdict_theory.specs.DepthMonotone.{first}
+use Rattle.verdict_theory.specs.Elements.{element-same}
+
+abbrev pub Reaches : Example → ℕ → Type 0
+Reaches e D = (e .depth ≡ D) ⊎ ((e .depth ≤ D) × ((first (e .answer) ≡ pos 2) → ⊥))
+
+pub starred-at-depth : All (λ e. (D : ℕ) → Reaches e D → elementRecord base (e .nodes) (e .indices) D ≡ e .answer) starred
+starred-at-depth = all-map Holds (λ e. (D : ℕ) → Reaches e D → elementRecord base (e .nodes) (e .indices) D ≡ e .answer) reach starred starred-hold
+  where
+    reach : (e : Example) → Holds e → (D : ℕ) → Reaches e D → elementRecord base (e .nodes) (e .indices) D ≡ e .answer
+    reach e h D (inl q) = subst (λ (d : ℕ). elementRecord base (e .nodes) (e .indices) d ≡ e .answer) q (h .0)
+    reach e h D (inr q) = element-same base (e .nodes) (e .indices) (e .depth) D (q .0) (λ p. q .1 (sym (ap first (h .0)) ∙ p)) ∙ h .0

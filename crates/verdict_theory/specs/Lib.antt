@@ -1,0 +1,17 @@
+pub mod Findings
+pub mod Levels
+pub mod Positive
+pub mod Stable
+pub mod Points
+pub mod Bounds
+pub mod Meaning
+pub mod Opened
+pub mod DepthMonotone
+pub mod Elements
+pub mod Examples
+pub mod Prune
+pub mod Search
+pub mod Passes
+pub mod Extremes
+pub mod Commute
+pub mod Clear
