@@ -10,9 +10,7 @@ ghost use Rattle.definitions.specs.Limits.{base};
 ghost use Rattle.definitions.specs.Jacobian.{side as sideOf};
 ghost use Rattle.definitions.specs.Address.{isCell, isCorner, childAddress, cornerAddress, parentAddress};
 ghost use Rattle.cell_address.specs.Meaning.{addressOf, moveOf, offsetBy};
-
-// The finest level that a cell may have.
-pub const MAX_DEPTH: u32 = 3;
+use limits::MAX_DEPTH;
 
 // A level and the grid numbers of a point, in steps of 1/2^level: of a cell its lowest corner.
 pub struct Address {

@@ -139,7 +139,7 @@ fn points_bounds(p: &[i32; 24], depth: u32) -> Extremes
 pub fn bounds_of(p: [i32; 24], depth: u32) -> Bounds
     ensures { λ r. ⌜ boundsHeld r ≡ boundsOf base p depth ⌝ }
 {
-    if cell_address::MAX_DEPTH < depth {
+    if limits::MAX_DEPTH < depth {
         return Bounds::TooDeep;
     }
     let first = mesh_checks::out_of_range(&p);

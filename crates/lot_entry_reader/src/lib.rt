@@ -9,13 +9,8 @@ ghost use Rattle.lot_format.specs.Numbers.{number};
 ghost use Rattle.lot_format.specs.Format.{lotFile, markOf, rightLength, inPlace, stageAfter, nameByte, nameBytes};
 ghost use Rattle.lot_format.specs.Reading.{nameFault, bodyFault, bodyOf, knownOf, entryOf, hasEnded};
 ghost use Rattle.lot_entry_reader.specs.Meaning.{markHeld, markedHeld, stageHeld, faultHeld, entryHeld, Within};
-
-// The limits of the definitions' `lotFile`.
-pub const MAX_BYTES: usize = 65536;
-
-pub const MAX_NAME: usize = 32;
-
-pub const MAX_ELEMENTS: usize = 1000;
+use limits::MAX_ELEMENTS;
+use limits::MAX_NAME;
 
 // The two letters of each mark as a number, low byte first: L is 0x4c, B is 0x42.
 pub const LETTERS_LB: u32 = 0x424c;

@@ -104,7 +104,7 @@ fn scan_file(file: &[u8]) -> Scan
     ensures { λ r. ⌜ scanHeld r ≡ scanOf (readLot lotFile (now (file .entry))) ⌝ }
     ensures { λ r. ⌜ Few r ⌝ }
 {
-    if lot_entry_reader::MAX_BYTES < file.len() {
+    if limits::MAX_BYTES < file.len() {
         return Scan::Refused(Unreadable::TooLong);
     }
     let mut at = 0;

@@ -96,10 +96,10 @@ fn fit_together(lengths: &[u32], offsets: &[u32], names: usize, elements: usize)
 fn short_names(label: usize, lengths: &[u32]) -> bool
     ensures { λ r. ⌜ r ≡ (leb label (lotFile .name) && allUpTo (lotFile .name) (now (lengths .entry))) ⌝ }
 {
-    if lot_entry_reader::MAX_NAME < label {
+    if limits::MAX_NAME < label {
         return false;
     }
-    up_to(lengths, lot_entry_reader::MAX_NAME)
+    up_to(lengths, limits::MAX_NAME)
 }
 
 // Whether all bytes of the label and of the names may stand there.
@@ -116,8 +116,8 @@ fn clean_names(label: &[u8], names: &[u8]) -> bool
 fn cap(n: usize) -> usize
     ensures { λ r. ⌜ r ≡ capped n ⌝ }
 {
-    if lot_entry_reader::MAX_BYTES < n {
-        lot_entry_reader::MAX_BYTES + 1
+    if limits::MAX_BYTES < n {
+        limits::MAX_BYTES + 1
     } else {
         n
     }
@@ -159,7 +159,7 @@ fn tested(
     if !clean_names(label, names) {
         return Written::Refused(Unwritable::BadByte);
     }
-    if lot_entry_reader::MAX_ELEMENTS < elements.len() / 8 {
+    if limits::MAX_ELEMENTS < elements.len() / 8 {
         return Written::Refused(Unwritable::TooManyElements);
     }
     let n = file_length(
@@ -169,7 +169,7 @@ fn tested(
         lengths.len(),
         names.len(),
     );
-    if lot_entry_reader::MAX_BYTES < n {
+    if limits::MAX_BYTES < n {
         return Written::Refused(Unwritable::TooLong);
     }
     if room < n {

@@ -12,17 +12,12 @@ ghost use Rattle.definitions.specs.Record.{words};
 ghost use Rattle.definitions.specs.Mesh.{wellSized, refusal, missingIndex, namedTwice, usable, pointsOf, outOfRange, faultOf, counted};
 ghost use Rattle.mesh_checks.specs.Meaning.{checkOf, firstOf, sameAfter, pointsAfter, elementOf, refusedWords, countsHeld};
 ghost use Rattle.verdict_theory.specs.Elements.{countsTotal};
-
-// The limits of the definitions' `base`; the greatest depth is `address`'s.
-pub const MAX_NODES: usize = 5000;
-
-pub const MAX_ELEMENTS: usize = 1000;
-
-pub const MAX_COORDINATE: i32 = 4096;
-
-pub const MIN_COORDINATE: i32 = -4096;
-
-pub const RECORD_WORDS: usize = 8;
+use limits::MAX_COORDINATE;
+use limits::MAX_DEPTH;
+use limits::MAX_ELEMENTS;
+use limits::MAX_NODES;
+use limits::MIN_COORDINATE;
+use limits::RECORD_WORDS;
 
 // Whether a mesh is accepted, or which refusal it meets first.
 pub enum Checked {
@@ -70,7 +65,7 @@ fn well_sized(n: usize, group: usize, most: usize) -> bool
 pub fn check(coordinates: usize, indices: usize, space: usize, depth: u32) -> Checked
     ensures { λ r. ⌜ checkOf r ≡ refusal base coordinates indices space depth ⌝ }
 {
-    if cell_address::MAX_DEPTH < depth {
+    if MAX_DEPTH < depth {
         return Checked::DepthTooGreat;
     }
     if !well_sized(coordinates, 3, MAX_NODES) {
