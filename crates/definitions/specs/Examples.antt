@@ -12,7 +12,7 @@ use Rattle.definitions.specs.Limits.{base}
 use Rattle.definitions.specs.Jacobian.{jacobian, scaledJacobian}
 use Rattle.definitions.specs.Coefficients.{numbered, at, coefficients}
 use Rattle.definitions.specs.Subdivision.{halve, child, children, whole}
-use Rattle.definitions.specs.Verdict.{cornersOf, coefficientsOf, lowPoint, lowCoefficient, lastLevel, validLevel, verdict, openedBelow, opened}
+use Rattle.definitions.specs.Verdict.{cornersOf, coefficientsOf, lowPoint, lowCoefficient, lastLevel, validLevel, verdict, openedBelow, openedCells, opened}
 use Rattle.definitions.specs.Bounds.{low, high}
 use Rattle.definitions.specs.Record.{words, recordOf}
 use Rattle.definitions.specs.Mesh.{refusal, missingIndex, namedTwice, pointsOf, outOfRange, faultOf, elementRecord, records, report, meshAccepted, meshRefused, badSpace, inspection, reportAfter, Stamp, sound, faulty, «open», stampOf, stampGiven, Bounds, bounds, boundsOf}
@@ -92,7 +92,7 @@ abbrev pub Holds : Example → Type 0
 Holds e = (elementRecord base (e .nodes) (e .indices) (e .depth) ≡ e .answer) × Bounded (e .nodes) (e .depth) (e .limits)
 
 pub starred-hold : All Holds starred
-unfolding jacobian scaledJacobian numbered at coefficients halve child children whole cornersOf coefficientsOf lowPoint lowCoefficient lastLevel validLevel verdict openedBelow opened low high recordOf missingIndex namedTwice pointsOf outOfRange faultOf elementRecord boundsOf
+unfolding jacobian scaledJacobian numbered at coefficients halve child children whole cornersOf coefficientsOf lowPoint lowCoefficient lastLevel validLevel verdict openedBelow openedCells opened low high recordOf missingIndex namedTwice pointsOf outOfRange faultOf elementRecord boundsOf
 starred-hold = ((refl, tt), ((refl, tt), ((refl, tt), ((refl, tt), ((refl, refl), ((refl, tt), ((refl, tt), ((refl, tt), ((refl, tt), ((refl, tt), ((refl, tt), ((refl, tt), tt))))))))))))
 
 -- ---- 02, No. 5: one index in two places, as a single list under the same claim
@@ -157,11 +157,11 @@ abbrev pub space : List ℤ
 space = pos 7 ∷ pos 7 ∷ pos 7 ∷ pos 7 ∷ pos 7 ∷ pos 7 ∷ pos 7 ∷ pos 7 ∷ pos 7 ∷ pos 7 ∷ pos 7 ∷ pos 7 ∷ pos 7 ∷ pos 7 ∷ pos 7 ∷ pos 7 ∷ []
 
 pub mesh-report : reportAfter base unitCube twoElements space 0 ≡ pos 0 ∷ pos 0 ∷ pos 0 ∷ pos 0 ∷ pos 0 ∷ pos 0 ∷ pos 0 ∷ pos 1 ∷ pos 5 ∷ pos 4 ∷ pos 8 ∷ pos 0 ∷ pos 0 ∷ pos 0 ∷ pos 0 ∷ pos 0 ∷ []
-unfolding jacobian scaledJacobian numbered at coefficients halve child children whole cornersOf coefficientsOf lowPoint lowCoefficient lastLevel validLevel verdict openedBelow opened recordOf missingIndex namedTwice pointsOf outOfRange faultOf elementRecord refusal records report reportAfter
+unfolding jacobian scaledJacobian numbered at coefficients halve child children whole cornersOf coefficientsOf lowPoint lowCoefficient lastLevel validLevel verdict openedBelow openedCells opened recordOf missingIndex namedTwice pointsOf outOfRange faultOf elementRecord refusal records report reportAfter
 mesh-report = refl
 
 pub mesh-answer : inspection base unitCube twoElements 16 0 ≡ meshAccepted (record { valid = 1; invalid = 0; undecided = 0; refused = 1 })
-unfolding jacobian scaledJacobian numbered at coefficients halve child children whole cornersOf coefficientsOf lowPoint lowCoefficient lastLevel validLevel verdict openedBelow opened recordOf missingIndex namedTwice pointsOf outOfRange faultOf elementRecord refusal records inspection
+unfolding jacobian scaledJacobian numbered at coefficients halve child children whole cornersOf coefficientsOf lowPoint lowCoefficient lastLevel validLevel verdict openedBelow openedCells opened recordOf missingIndex namedTwice pointsOf outOfRange faultOf elementRecord refusal records inspection
 mesh-answer = refl
 
 -- one word short: refused with 4, the space as it was
@@ -194,5 +194,5 @@ abbrev pub Stamped : Lot → Type 0
 Stamped t = (stampGiven (inspection base (t .nodes) (t .indices) (length (t .indices)) 0) ≡ some (t .stamp)) × (stampGiven (inspection base (t .nodes) (t .indices) (suc (length (t .indices))) 0) ≡ none)
 
 pub stamped-hold : All Stamped stamped
-unfolding jacobian scaledJacobian numbered at coefficients halve child children whole cornersOf coefficientsOf lowPoint lowCoefficient lastLevel validLevel verdict openedBelow opened recordOf missingIndex namedTwice pointsOf outOfRange faultOf elementRecord refusal records inspection stampOf
+unfolding jacobian scaledJacobian numbered at coefficients halve child children whole cornersOf coefficientsOf lowPoint lowCoefficient lastLevel validLevel verdict openedBelow openedCells opened recordOf missingIndex namedTwice pointsOf outOfRange faultOf elementRecord refusal records inspection stampOf
 stamped-hold = ((refl, refl), ((refl, refl), ((refl, refl), ((refl, refl), ((refl, refl), ((refl, refl), ((refl, refl), ((refl, refl), tt))))))))

@@ -9,9 +9,11 @@ pub record Limits : Type 0 where
   -- at most so many nodes and elements
   pub nodes : ℕ
   pub elements : ℕ
-  -- words of the report for each element
-  pub words : ℕ
 
 -- Document 01, "What the inspector takes".
 abbrev pub base : Limits
-base = record { range = 4096; depth = 3; nodes = 5000; elements = 1000; words = 8 }
+base = record { range = 4096; depth = 3; nodes = 5000; elements = 1000 }
+
+-- the words of a record; request No. 8 of document 02 lengthens it
+abbrev pub recordWords : ℕ
+recordWords = 8

@@ -7,9 +7,9 @@ use lib.Dec.{eqb, leb, ltb}
 use lib.ListN.{getD, length, take, drop}
 use lib.IntN.{ℤ, pos, natAbs}
 use Rattle.foundation.specs.Lists.{concatMap, tabulate}
-use Rattle.definitions.specs.Limits.{Limits}
+use Rattle.definitions.specs.Limits.{Limits, recordWords}
 use Rattle.definitions.specs.Bounds.{low, high}
-use Rattle.definitions.specs.Record.{Fault, missing, twice, outside, faultWords, recordOf}
+use Rattle.definitions.specs.Record.{Fault, missing, twice, outside, faultWords, recordOf, isValid, isInvalid, isUndecided, isRefused}
 
 -- "1 to 4 are tested in that order, and given only then."
 pub data MeshRefusal : Type 0 where
@@ -40,7 +40,7 @@ refusal L coordinates indices space D =
                 elim (wellSized indices 8 (L .elements)) [
                   | false ↦ some badIndices
                   | true ↦
-                      elim (eqb space (L .words * (indices / 8))) [ false ↦ some badSpace | true ↦ none ]
+                      elim (eqb space (recordWords * (indices / 8))) [ false ↦ some badSpace | true ↦ none ]
                 ]
           ]
     ]
@@ -105,16 +105,12 @@ pub record Counts : Type 0 where
 abbrev pub noCounts : Counts
 noCounts = record { valid = 0; invalid = 0; undecided = 0; refused = 0 }
 
--- one record more, by its word 0
-abbrev pub counted : ℕ → Counts → Counts
-counted zero n = record { valid = suc (n .valid); invalid = n .invalid; undecided = n .undecided; refused = n .refused }
-counted (suc zero) n = record { valid = n .valid; invalid = suc (n .invalid); undecided = n .undecided; refused = n .refused }
-counted (suc (suc zero)) n = record { valid = n .valid; invalid = n .invalid; undecided = suc (n .undecided); refused = n .refused }
-counted (suc (suc (suc k))) n = record { valid = n .valid; invalid = n .invalid; undecided = n .undecided; refused = suc (n .refused) }
+abbrev pub howMany : (List ℤ → Bool) → List (List ℤ) → ℕ
+howMany p [] = 0
+howMany p (r ∷ rs) = elim (p r) [ true ↦ suc (howMany p rs) | false ↦ howMany p rs ]
 
 abbrev pub countsOf : List (List ℤ) → Counts
-countsOf [] = noCounts
-countsOf (r ∷ rs) = counted (natAbs (getD r 0 (pos 0))) (countsOf rs)
+countsOf rs = record { valid = howMany isValid rs; invalid = howMany isInvalid rs; undecided = howMany isUndecided rs; refused = howMany isRefused rs }
 
 -- The answer of an inspection: number 0 with the counts, or the refusal's number with counts 0.
 pub data Inspection : Type 0 where

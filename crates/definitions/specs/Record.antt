@@ -1,11 +1,19 @@
 -- Document 01, "What a record says".
-use mathlib.Core.List.{List, [], _∷_}
+use mathlib.Core.Bool.{Bool, false, _||_}
+use mathlib.Core.List.{List, [], _∷_, _++_}
 use Prim.Native.Nat.{ℕ}
-use lib.IntN.{ℤ, pos}
+use lib.Dec.{eqb}
+use lib.ListN.{getD}
+use lib.IntN.{ℤ, pos, negsuc}
 use Rattle.definitions.specs.Verdict.{Finding, Verdict, valid, invalid, undecided, verdict, opened}
 
+-- the words in which a whole number stands in a record
+abbrev pub valueWords : ℤ → List ℤ
+valueWords z = z ∷ []
+
+-- a record: six words, those of a value, and the number of cubes opened
 abbrev pub words : ℕ → ℕ → ℕ → ℕ → ℕ → ℕ → ℤ → ℕ → List ℤ
-words w0 w1 w2 w3 w4 w5 w6 w7 = pos w0 ∷ pos w1 ∷ pos w2 ∷ pos w3 ∷ pos w4 ∷ pos w5 ∷ w6 ∷ pos w7 ∷ []
+words w0 w1 w2 w3 w4 w5 value opened = pos w0 ∷ pos w1 ∷ pos w2 ∷ pos w3 ∷ pos w4 ∷ pos w5 ∷ (valueWords value ++ (pos opened ∷ []))
 
 abbrev pub kind : Verdict → ℕ
 kind (valid l) = 0
@@ -33,3 +41,24 @@ abbrev pub faultWords : Fault → List ℤ
 faultWords (missing p i) = words 5 p i 0 0 0 (pos 0) 0
 faultWords (twice p q) = words 7 p q 0 0 0 (pos 0) 0
 faultWords (outside p e) = words 6 p e 0 0 0 (pos 0) 0
+
+-- ---- the kind of a record, by its word 0; an empty one has −1 there, which is no kind
+abbrev pub kindWord : List ℤ → ℤ
+kindWord r = getD r 0 (negsuc 0)
+
+abbrev pub isNumber : ℕ → ℤ → Bool
+isNumber k (pos n) = eqb n k
+isNumber k (negsuc n) = false
+
+abbrev pub isValid : List ℤ → Bool
+isValid r = isNumber 0 (kindWord r)
+
+abbrev pub isInvalid : List ℤ → Bool
+isInvalid r = isNumber 1 (kindWord r)
+
+abbrev pub isUndecided : List ℤ → Bool
+isUndecided r = isNumber 2 (kindWord r)
+
+-- 5, 6 or 7
+abbrev pub isRefused : List ℤ → Bool
+isRefused r = isNumber 5 (kindWord r) || (isNumber 6 (kindWord r) || isNumber 7 (kindWord r))

@@ -7,6 +7,16 @@ use Rattle.foundation.specs.Lists.{concatMap, tabulate}
 use Rattle.definitions.specs.Jacobian.{side}
 use Rattle.definitions.specs.Coefficients.{numbered, at, coefficients}
 
+-- A row of the 27 in direction d: three values in line, at the places u and v of the other two directions.
+abbrev pub rowAt : {A : Type 0} → ℕ → (ℕ → ℕ → ℕ → A) → ℕ → ℕ → ℕ → A
+rowAt zero c u v t = c t u v
+rowAt (suc zero) c u v t = c u t v
+rowAt (suc (suc d)) c u v t = c u v t
+
+-- the nine rows of direction d
+abbrev pub rows : {A : Type 0} → ℕ → (ℕ → ℕ → ℕ → A) → List (List A)
+rows d c = concatMap (λ u. tabulate (λ v. tabulate (rowAt d c u v) 0 3) 0 3) (tabulate (λ u. u) 0 3)
+
 module _ {A : Type 0} (o : Arithmetic A) where
   infixl 6 _⊕_
   infixl 7 _⊗_
@@ -28,11 +38,11 @@ module _ {A : Type 0} (o : Arithmetic A) where
   cutRow zero f = lower (f 0) (f 1) (f 2)
   cutRow (suc h) f = upper (f 0) (f 1) (f 2)
 
-  -- the half on side h in direction d
+  -- the half on side h in direction d: each of its nine rows cut
   abbrev pub cut : ℕ → ℕ → (ℕ → ℕ → ℕ → A) → ℕ → ℕ → ℕ → A
-  cut zero h c i j k = cutRow h (λ t. c t j k) i
-  cut (suc zero) h c i j k = cutRow h (λ t. c i t k) j
-  cut (suc (suc d)) h c i j k = cutRow h (λ t. c i j t) k
+  cut zero h c i j k = cutRow h (rowAt 0 c j k) i
+  cut (suc zero) h c i j k = cutRow h (rowAt 1 c i k) j
+  cut (suc (suc d)) h c i j k = cutRow h (rowAt 2 c i j) k
 
 unfoldable pub halve : ℕ → ℕ → List ℤ → List ℤ
 halve d h c = numbered (cut integers d h (at c))

@@ -1,9 +1,9 @@
 -- Document 01, "The verdict, without a search", and the cubes opened. Every list of cells is written out in full.
 use mathlib.Core.Bool.{Bool, true, false, not}
-use mathlib.Core.List.{List, [], _∷_}
+use mathlib.Core.List.{List, [], _∷_, _++_, map}
 use mathlib.Core.Option.{Option, none, some}
 use Prim.Native.Nat.{ℕ, zero, suc, _+_}
-use lib.ListN.{getD}
+use lib.ListN.{getD, length}
 use lib.IntN.{ℤ, pos}
 use lib.Signed.{leZ}
 use Rattle.foundation.specs.Lists.{concatMap, tabulate}
@@ -80,19 +80,28 @@ openedBelow s = elim (blocked s) [ true ↦ children s | false ↦ [] ]
 abbrev pub openedAt : List ℤ → ℕ → List Cell
 openedAt xs m = descend openedBelow m (whole xs ∷ [])
 
--- "Opening ends at the cube of an invalid answer": how many, up to and with the first at which p holds
-abbrev pub upTo : (Cell → Bool) → List Cell → ℕ
-upTo p [] = 0
-upTo p (s ∷ ss) = elim (p s) [ true ↦ 1 | false ↦ suc (upTo p ss) ]
+-- "Opening ends at the cube of an invalid answer": the cells up to and with the first at which p holds
+abbrev pub through : (Cell → Bool) → List Cell → List Cell
+through p [] = []
+through p (s ∷ ss) = elim (p s) [ true ↦ s ∷ [] | false ↦ s ∷ through p ss ]
 
-abbrev pub countAt : List ℤ → ℕ → ℕ
-countAt xs m = upTo (λ s. found (firstLow (cornersOf xs m s))) (openedAt xs m)
+-- a cell that is opened, with its level
+pub record OpenedCell : Type 0 where
+  pub level : ℕ
+  pub cell : Cell
 
--- levels 0 to m together
-abbrev pub countTo : List ℤ → ℕ → ℕ
-countTo xs zero = countAt xs 0
-countTo xs (suc m) = countTo xs m + countAt xs (suc m)
+abbrev pub openedOn : List ℤ → ℕ → List OpenedCell
+openedOn xs m = map (λ s. record { level = m; cell = s }) (through (λ s. found (firstLow (cornersOf xs m s))) (openedAt xs m))
 
--- "level by level, in path order, starting with the whole … or when no cube is due"
+-- levels 0 to m, one after the other
+abbrev pub openedTo : List ℤ → ℕ → List OpenedCell
+openedTo xs zero = openedOn xs 0
+openedTo xs (suc m) = openedTo xs m ++ openedOn xs (suc m)
+
+-- "Cubes opened: level by level, in path order, starting with the whole … Opening ends at the cube of an invalid answer, or when no cube is due."
+unfoldable pub openedCells : List ℤ → ℕ → List OpenedCell
+openedCells xs D = openedTo xs (lastLevel xs D)
+
+-- how many
 unfoldable pub opened : List ℤ → ℕ → ℕ
-opened xs D = countTo xs (lastLevel xs D)
+opened xs D = length (openedCells xs D)

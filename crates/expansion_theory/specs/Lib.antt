@@ -10,3 +10,4 @@ pub mod Hull
 pub mod Size
 pub mod Volumes
 pub mod Rule
+pub mod Control

@@ -56,13 +56,21 @@ Bounded B c = All (λ v. natAbs v ≤ B) c
 level-bound : (B m : ℕ) → 64 * (B * 64 ^ m) ≡ B * 64 ^ suc m
 level-bound B m = mul-comm 64 (B * 64 ^ m) ∙ mul-assoc B (64 ^ m) 64 ∙ ap (λ (t : ℕ). B * t) (sym (pow-suc 64 m))
 
+-- from a bound at level 0
+module _ (xs : List ℤ) (B : ℕ) (h : All (λ v. natAbs v ≤ B) (whole xs .control)) where
+  abbrev BoundedAt : ℕ → Cell → Type 0
+  BoundedAt m s = Bounded (B * 64 ^ m) (s .control)
+
+  pub cells-size : (m : ℕ) → All (λ s. All (λ v. natAbs v ≤ B * 64 ^ m) (s .control)) (cells xs m)
+  cells-size zero = (subst (λ (n : ℕ). Bounded n (whole xs .control)) (sym (mul-one B)) h, tt)
+  cells-size (suc m) = all-concat (BoundedAt (suc m)) children (cells xs m)
+      (all-map (BoundedAt m) (λ s. All (BoundedAt (suc m)) (children s))
+      (λ s p. eight (BoundedAt (suc m)) s (λ k _. subst (λ (n : ℕ). Bounded n (child s k .control)) (level-bound B m) (child-size (B * 64 ^ m) s k p)))
+      (cells xs m) (cells-size m))
+
 module _ (xs : List ℤ) (L : ℕ) (h : (i : ℕ) → natAbs (getD xs i (pos 0)) ≤ L) where
-  -- the bound at level 0, and what is said of a cell of level m
   abbrev most : ℕ
   most = 384 * L ^ 3
-
-  abbrev BoundedAt : ℕ → Cell → Type 0
-  BoundedAt m s = Bounded (most * 64 ^ m) (s .control)
 
   pub whole-size : All (λ v. natAbs v ≤ 384 * L ^ 3) (whole xs .control)
   unfolding whole
@@ -70,8 +78,4 @@ module _ (xs : List ℤ) (L : ℕ) (h : (i : ℕ) → natAbs (getD xs i (pos 0))
       (λ i j k. subst (λ (n : ℕ). natAbs (polar integers (nodesOf xs) i j k) ≤ n) (polar-bound L i j k) (bound-is (coordinate xs) (λ n. L) h (polar expressions nodeVar i j k))))
 
   pub coefficient-size : (m : ℕ) → All (λ s. All (λ v. natAbs v ≤ 384 * L ^ 3 * 64 ^ m) (s .control)) (cells xs m)
-  coefficient-size zero = (subst (λ (n : ℕ). Bounded n (whole xs .control)) (sym (mul-one most)) whole-size, tt)
-  coefficient-size (suc m) = all-concat (BoundedAt (suc m)) children (cells xs m)
-      (all-map (BoundedAt m) (λ s. All (BoundedAt (suc m)) (children s))
-      (λ s p. eight (BoundedAt (suc m)) s (λ k _. subst (λ (n : ℕ). Bounded n (child s k .control)) (level-bound most m) (child-size (most * 64 ^ m) s k p)))
-      (cells xs m) (coefficient-size m))
+  coefficient-size = cells-size xs most whole-size

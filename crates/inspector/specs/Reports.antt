@@ -7,9 +7,11 @@ use lib.ListN.{getD, length, take, drop, length-append, length-drop, drop-of-len
 use lib.Seq.{length-take-le, take-at, drop-at, drop-drop}
 use lib.IntN.{ℤ, pos, natAbs}
 use Rattle.foundation.specs.Lists.{All, all-tabulate, concatMap, concatMap-append, append-nil, tabulate, length-tabulate, tabulate-at}
-use Rattle.definitions.specs.Limits.{Limits}
-use Rattle.definitions.specs.Mesh.{elementRecord, records, report, Counts, counted, countsOf}
-use Rattle.verdict_theory.specs.Elements.{element-length, concat-length, countsTotal, counts-total}
+use Rattle.definitions.specs.Limits.{Limits, recordWords}
+use Rattle.definitions.specs.Record.{kindWord}
+use Rattle.definitions.specs.Mesh.{elementRecord, records, report, countsOf}
+use Rattle.verdict_theory.specs.Kinds.{HasKind, counted, counts-last, countsTotal, counts-total}
+use Rattle.verdict_theory.specs.Elements.{element-length, element-kind, concat-length}
 use Rattle.mesh_checks.specs.Report.{put-next}
 
 -- ---- one more at the end
@@ -19,28 +21,6 @@ tabulate-last f i n = let p : n + 1 ≡ suc n = omega arith in ap (tabulate f i)
     go : (i n : ℕ) → tabulate f i (suc n) ≡ tabulate f i n ++ (f (i + n) ∷ [])
     go i zero = let p : i ≡ i + 0 = omega arith in ap (λ (k : ℕ). f k ∷ []) p
     go i (suc n) = let p : suc i + n ≡ i + suc n = omega arith in ap (λ l. f i ∷ l) (go (suc i) n ∙ ap (λ (k : ℕ). tabulate f (suc i) n ++ (f k ∷ [])) p)
-
-swap : (j k : ℕ) (n : Counts) → counted j (counted k n) ≡ counted k (counted j n)
-swap zero zero n = refl
-swap zero (suc zero) n = refl
-swap zero (suc (suc zero)) n = refl
-swap zero (suc (suc (suc k))) n = refl
-swap (suc zero) zero n = refl
-swap (suc zero) (suc zero) n = refl
-swap (suc zero) (suc (suc zero)) n = refl
-swap (suc zero) (suc (suc (suc k))) n = refl
-swap (suc (suc zero)) zero n = refl
-swap (suc (suc zero)) (suc zero) n = refl
-swap (suc (suc zero)) (suc (suc zero)) n = refl
-swap (suc (suc zero)) (suc (suc (suc k))) n = refl
-swap (suc (suc (suc j))) zero n = refl
-swap (suc (suc (suc j))) (suc zero) n = refl
-swap (suc (suc (suc j))) (suc (suc zero)) n = refl
-swap (suc (suc (suc j))) (suc (suc (suc k))) n = refl
-
-counts-last : (rs : List (List ℤ)) (r : List ℤ) → countsOf (rs ++ (r ∷ [])) ≡ counted (natAbs (getD r 0 (pos 0))) (countsOf rs)
-counts-last [] r = refl
-counts-last (q ∷ rs) r = ap (counted (natAbs (getD q 0 (pos 0)))) (counts-last rs r) ∙ swap (natAbs (getD q 0 (pos 0))) (natAbs (getD r 0 (pos 0))) (countsOf rs)
 
 concat-last : (rs : List (List ℤ)) (r : List ℤ) → concatMap (λ x. x) (rs ++ (r ∷ [])) ≡ concatMap (λ x. x) rs ++ r
 concat-last rs r = concatMap-append (λ x. x) rs (r ∷ []) ∙ ap (λ (l : List ℤ). concatMap (λ x. x) rs ++ l) (append-nil r)
@@ -58,12 +38,12 @@ module _ (L : Limits) (coordinates : List ℤ) (indices : List ℕ) (D : ℕ) wh
 
   -- the report space when the first e records are written
   abbrev pub spaceAt : ℕ → List ℤ → List ℤ
-  spaceAt e space = written e ++ drop (8 * e) space
+  spaceAt e space = written e ++ drop (recordWords * e) space
 
-  pub written-length : (e : ℕ) → length (written e) ≡ 8 * e
-  written-length e = concat-length (firstRecords e) (all-tabulate (λ r. length r ≡ 8) recordAt 0 e (λ k _ _. element-length L coordinates (take 8 (drop (8 * k) indices)) D)) ∙ ap (λ (n : ℕ). 8 * n) (length-tabulate recordAt 0 e)
+  pub written-length : (e : ℕ) → length (written e) ≡ recordWords * e
+  written-length e = concat-length (firstRecords e) (all-tabulate (λ r. length r ≡ recordWords) recordAt 0 e (λ k _ _. element-length L coordinates (take 8 (drop (8 * k) indices)) D)) ∙ ap (λ (n : ℕ). recordWords * n) (length-tabulate recordAt 0 e)
 
-  pub space-length : (e : ℕ) (space : List ℤ) → 8 * e ≤ length space → length (spaceAt e space) ≡ length space
+  pub space-length : (e : ℕ) (space : List ℤ) → recordWords * e ≤ length space → length (spaceAt e space) ≡ length space
   space-length e space h = simp (length-append, length-drop) (omega (arith, written-length e))
 
   pub written-next : (e : ℕ) → written (e + 1) ≡ written e ++ recordAt e
@@ -72,16 +52,16 @@ module _ (L : Limits) (coordinates : List ℤ) (indices : List ℕ) (D : ℕ) wh
       zero-plus : 0 + e ≡ e
       zero-plus = omega arith
 
-  pub counts-next : (e : ℕ) → countsOf (firstRecords (e + 1)) ≡ counted (natAbs (getD (recordAt e) 0 (pos 0))) (countsOf (firstRecords e))
-  counts-next e = ap countsOf (tabulate-last recordAt 0 e) ∙ counts-last (firstRecords e) (recordAt (0 + e)) ∙ ap (λ (k : ℕ). counted (natAbs (getD (recordAt k) 0 (pos 0))) (countsOf (firstRecords e))) zero-plus
+  pub counts-next : (e : ℕ) → countsOf (firstRecords (e + 1)) ≡ counted (kindWord (recordAt e)) (countsOf (firstRecords e))
+  counts-next e = ap countsOf (tabulate-last recordAt 0 e) ∙ counts-last (firstRecords e) (recordAt (0 + e)) ∙ ap (λ (k : ℕ). counted (kindWord (recordAt k)) (countsOf (firstRecords e))) zero-plus
     where
       zero-plus : 0 + e ≡ e
       zero-plus = omega arith
 
   -- all of them
-  pub space-last : (e : ℕ) (space : List ℤ) → e ≡ length indices / 8 → length space ≡ 8 * (length indices / 8) → spaceAt e space ≡ report L coordinates indices D
+  pub space-last : (e : ℕ) (space : List ℤ) → e ≡ length indices / 8 → length space ≡ recordWords * (length indices / 8) → spaceAt e space ≡ report L coordinates indices D
   unfolding report records
-  space-last e space h k = let p : length space ≤ 8 * e = omega arith in ap (λ (l : List ℤ). written e ++ l) (drop-of-length-le space p) ∙ append-nil (written e) ∙ ap written h
+  space-last e space h k = let p : length space ≤ recordWords * e = omega arith in ap (λ (l : List ℤ). written e ++ l) (drop-of-length-le space p) ∙ append-nil (written e) ∙ ap written h
 
   pub counts-last-of : (e : ℕ) → e ≡ length indices / 8 → countsOf (firstRecords e) ≡ countsOf (records L coordinates indices D)
   unfolding records
@@ -100,29 +80,29 @@ natural-by x y e h = subst (λ (z : ℤ). z ≡ pos (natAbs z)) (sym e) h
 module _ (L : Limits) (coordinates : List ℤ) (indices : List ℕ) (D : ℕ) where
   -- as many are counted as are written
   pub counted-so-far : (e : ℕ) → countsTotal (countsOf (firstRecords L coordinates indices D e)) ≡ e
-  counted-so-far e = counts-total (firstRecords L coordinates indices D e) ∙ length-tabulate (recordAt L coordinates indices D) 0 e
+  counted-so-far e = counts-total (firstRecords L coordinates indices D e) (all-tabulate HasKind (recordAt L coordinates indices D) 0 e (λ k _ _. element-kind L coordinates (take 8 (drop (8 * k) indices)) D)) ∙ length-tabulate (recordAt L coordinates indices D) 0 e
 
   -- record e put after those before it
   pub put-record : (e : ℕ) (space now words : List ℤ) → now ≡ spaceAt L coordinates indices D e space → words ≡ recordAt L coordinates indices D e
-      → take (8 * e) now ++ words ++ drop (8 * e + 8) now ≡ spaceAt L coordinates indices D (e + 1) space
-  put-record e space now words h k = ap₂ (λ (n w : List ℤ). take (8 * e) n ++ w ++ drop (8 * e + 8) n) h k
+      → take (recordWords * e) now ++ words ++ drop (recordWords * e + recordWords) now ≡ spaceAt L coordinates indices D (e + 1) space
+  put-record e space now words h k = ap₂ (λ (n w : List ℤ). take (recordWords * e) n ++ w ++ drop (recordWords * e + recordWords) n) h k
       ∙ put-next (written L coordinates indices D e) space (recordAt L coordinates indices D e) e (written-length L coordinates indices D e)
-      ∙ ap (λ (l : List ℤ). l ++ drop (8 * (e + 1)) space) (sym (written-next L coordinates indices D e))
+      ∙ ap (λ (l : List ℤ). l ++ drop (recordWords * (e + 1)) space) (sym (written-next L coordinates indices D e))
 
 -- ---- element e's words in the report
-concat-part : (rs : List (List ℤ)) (e : ℕ) → All (λ r. length r ≡ 8) rs → e < length rs → take 8 (drop (8 * e) (concatMap (λ r. r) rs)) ≡ getD rs e []
+concat-part : (rs : List (List ℤ)) (e : ℕ) → All (λ r. length r ≡ recordWords) rs → e < length rs → take recordWords (drop (recordWords * e) (concatMap (λ r. r) rs)) ≡ getD rs e []
 concat-part [] e h l = absurd (omega arith)
-concat-part (r ∷ rs) zero h l = take-at r (concatMap (λ x. x) rs) 8 (h .0)
+concat-part (r ∷ rs) zero h l = take-at r (concatMap (λ x. x) rs) recordWords (h .0)
 concat-part (r ∷ rs) (suc e) h l =
-    let p : 8 * suc e ≡ 8 + 8 * e = omega arith in
-    ap (λ (n : ℕ). take 8 (drop n (r ++ concatMap (λ x. x) rs))) p
-    ∙ ap (take 8) (sym (drop-drop (8 * e) 8 (r ++ concatMap (λ x. x) rs)) ∙ ap (drop (8 * e)) (drop-at r (concatMap (λ x. x) rs) 8 (h .0)))
+    let p : recordWords * suc e ≡ recordWords + recordWords * e = omega arith in
+    ap (λ (n : ℕ). take recordWords (drop n (r ++ concatMap (λ x. x) rs))) p
+    ∙ ap (take recordWords) (sym (drop-drop (recordWords * e) recordWords (r ++ concatMap (λ x. x) rs)) ∙ ap (drop (recordWords * e)) (drop-at r (concatMap (λ x. x) rs) recordWords (h .0)))
     ∙ concat-part rs e (h .1) (omega arith)
 
-pub report-part : (L : Limits) (coordinates : List ℤ) (indices : List ℕ) (D e : ℕ) → e < length indices / 8 → take 8 (drop (8 * e) (report L coordinates indices D)) ≡ elementRecord L coordinates (take 8 (drop (8 * e) indices)) D
+pub report-part : (L : Limits) (coordinates : List ℤ) (indices : List ℕ) (D e : ℕ) → e < length indices / 8 → take recordWords (drop (recordWords * e) (report L coordinates indices D)) ≡ elementRecord L coordinates (take 8 (drop (8 * e) indices)) D
 unfolding report records
 report-part L coordinates indices D e h =
     let f = recordAt L coordinates indices D in
     let n = length indices / 8 in
-    concat-part (tabulate f 0 n) e (all-tabulate (λ r. length r ≡ 8) f 0 n (λ k _ _. element-length L coordinates (take 8 (drop (8 * k) indices)) D)) (subst (λ (k : ℕ). e < k) (sym (length-tabulate f 0 n)) h)
+    concat-part (tabulate f 0 n) e (all-tabulate (λ r. length r ≡ recordWords) f 0 n (λ k _ _. element-length L coordinates (take 8 (drop (8 * k) indices)) D)) (subst (λ (k : ℕ). e < k) (sym (length-tabulate f 0 n)) h)
     ∙ tabulate-at f n e [] h

@@ -1,28 +1,26 @@
 -- The stamp and the records of the report: what 02's sentence says of the records is the stamp of their counts; a refused mesh has no stamp; a closer look changes no stamp but an open one.
-use mathlib.Core.Path.{_≡_, refl, sym, _∙_, ap, ap₂}
+use mathlib.Core.Path.{_≡_, refl, sym, _∙_, ap, ap₂, subst}
 use mathlib.Core.Bool.{Bool, true, false, _&&_, _||_, and-false, or-true, and-eq-true-iff, true≢false}
 use mathlib.Core.List.{List, [], _∷_}
 use mathlib.Core.Option.{Option, none, some}
-use Prim.Native.Nat.{ℕ, zero, suc, _*_, _/_, _≤_}
+use Prim.Native.Nat.{ℕ, zero, suc, _+_, _*_, _/_, _≤_}
 use native.Mathlib.Omega.{arith}
-use borrow.Author.Tests.{eqb-true, lt-ltb}
-use lib.Dec.{ltb, eqb, eqb·suc-zero}
+use borrow.Author.Tests.{eqb-true, ne-eqb, lt-ltb}
+use lib.Dec.{ltb, eqb}
 use lib.ListN.{length, take, drop}
 use lib.IntN.{ℤ, pos, natAbs}
-use Rattle.foundation.specs.Lists.{tabulate, tabulate-cong}
-use Rattle.definitions.specs.Limits.{Limits}
-use Rattle.definitions.specs.Mesh.{MeshRefusal, records, report, Counts, counted, countsOf, inspection, reportAfter, Stamp, «open», stampBy, onlyValid, someFaulty, stampOf, stampGiven}
-use Rattle.verdict_theory.specs.DepthMonotone.{first}
-use Rattle.verdict_theory.specs.Elements.{element-same, counts-total, report-length}
+use Rattle.foundation.specs.Lists.{All, tabulate, tabulate-cong}
+use Rattle.definitions.specs.Limits.{Limits, recordWords}
+use Rattle.definitions.specs.Record.{kindWord, isNumber, isValid, isInvalid, isRefused}
+use Rattle.definitions.specs.Mesh.{MeshRefusal, records, report, Counts, howMany, countsOf, inspection, reportAfter, Stamp, «open», stampBy, onlyValid, someFaulty, stampOf, stampGiven}
+use Rattle.verdict_theory.specs.Kinds.{isRefusal, HasKind, Kind, kind0, kind1, kind2, kind5, kind6, kind7, number-is, kind-of, counted, counts-front, counts-total}
+use Rattle.verdict_theory.specs.Elements.{element-same, records-kinds, report-length}
 use Rattle.inspector.specs.Reports.{recordAt, report-part}
 use Rattle.inspector.specs.Answers.{refusalHere, refused-answer, accepted-answer, accepted-space, stamp-is}
 
--- a record is valid; it is invalid or refused: by its word 0
-abbrev pub isValid : List ℤ → Bool
-isValid r = eqb (natAbs (first r)) 0
-
+-- a record is invalid or refused
 abbrev pub isFaulty : List ℤ → Bool
-isFaulty r = eqb (natAbs (first r)) 1 || ltb 2 (natAbs (first r))
+isFaulty r = isInvalid r || isRefused r
 
 abbrev pub every : (List ℤ → Bool) → List (List ℤ) → Bool
 every p [] = true
@@ -37,45 +35,71 @@ abbrev pub stampOfRecords : List (List ℤ) → Stamp
 stampOfRecords rs = stampBy (ltb 0 (length rs) && every isValid rs) (any isFaulty rs)
 
 -- ---- the counts tell of all records what their words 0 tell
+-- none but valid ones are counted
+abbrev none : ℕ → ℕ → ℕ → Bool
+none i u r = eqb i 0 && eqb u 0 && eqb r 0
+
 abbrev noOther : Counts → Bool
-noOther n = eqb (n .invalid) 0 && eqb (n .undecided) 0 && eqb (n .refused) 0
+noOther n = none (n .invalid) (n .undecided) (n .refused)
 
-valid-counted : (k : ℕ) (n : Counts) → (eqb k 0 && noOther n) ≡ noOther (counted k n)
-valid-counted zero n = refl
-valid-counted (suc zero) n = sym (rw eqb·suc-zero refl)
-valid-counted (suc (suc zero)) n = sym (rw (eqb·suc-zero, and-false) refl)
-valid-counted (suc (suc (suc k))) n = ap (λ (b : Bool). b && noOther n) (eqb·suc-zero (suc (suc k))) ∙ sym (ap (λ (b : Bool). eqb (n .invalid) 0 && eqb (n .undecided) 0 && b) (eqb·suc-zero (n .refused)) ∙ and-false (eqb (n .invalid) 0 && eqb (n .undecided) 0))
+not-none : (n : ℕ) → eqb (n + 1) 0 ≡ false
+not-none n = ne-eqb (n + 1) 0 (λ e. omega arith)
 
-every-counted : (rs : List (List ℤ)) → every isValid rs ≡ noOther (countsOf rs)
-every-counted [] = refl
-every-counted (r ∷ rs) = ap (λ (b : Bool). isValid r && b) (every-counted rs) ∙ valid-counted (natAbs (first r)) (countsOf rs)
+first-one : (i u r : ℕ) → none (i + 1) u r ≡ false
+first-one i u r = ap (λ (b : Bool). b && eqb u 0 && eqb r 0) (not-none i)
 
-some-more : (n : ℕ) → ltb 0 (suc n) ≡ true
-some-more n = lt-ltb 0 (suc n) (omega arith)
+second-one : (i u r : ℕ) → none i (u + 1) r ≡ false
+second-one i u r = ap (λ (b : Bool). eqb i 0 && b && eqb r 0) (not-none u) ∙ ap (λ (b : Bool). b && eqb r 0) (and-false (eqb i 0))
 
-faulty-counted : (k : ℕ) (n : Counts) → (eqb k 1 || ltb 2 k || someFaulty n) ≡ someFaulty (counted k n)
-faulty-counted zero n = refl
-faulty-counted (suc zero) n = sym (ap (λ (b : Bool). b || ltb 0 (n .refused)) (some-more (n .invalid)))
-faulty-counted (suc (suc zero)) n = refl
-faulty-counted (suc (suc (suc k))) n =
-    ap (λ (b : Bool). eqb (suc (suc (suc k))) 1 || b || someFaulty n) (lt-ltb 2 (suc (suc (suc k))) (omega arith))
-    ∙ ap (λ (b : Bool). b || someFaulty n) (or-true (eqb (suc (suc (suc k))) 1))
-    ∙ sym (ap (λ (b : Bool). ltb 0 (n .invalid) || b) (some-more (n .refused)) ∙ or-true (ltb 0 (n .invalid)))
+third-one : (i u r : ℕ) → none i u (r + 1) ≡ false
+third-one i u r = ap (λ (b : Bool). eqb i 0 && eqb u 0 && b) (not-none r) ∙ and-false (eqb i 0 && eqb u 0)
+
+add-zero : (n : ℕ) → n ≡ n + 0
+add-zero n = omega arith
+
+valid-counted : (z : ℤ) (n : Counts) → Kind z → (isNumber 0 z && noOther n) ≡ noOther (counted z n)
+valid-counted z n (kind0 e) = subst (λ (y : ℤ). (isNumber 0 y && noOther n) ≡ noOther (counted y n)) (sym e) (λ i. none (add-zero (n .invalid) i) (add-zero (n .undecided) i) (add-zero (n .refused) i))
+valid-counted z n (kind1 e) = subst (λ (y : ℤ). (isNumber 0 y && noOther n) ≡ noOther (counted y n)) (sym e) (sym (first-one (n .invalid) (n .undecided + 0) (n .refused + 0)))
+valid-counted z n (kind2 e) = subst (λ (y : ℤ). (isNumber 0 y && noOther n) ≡ noOther (counted y n)) (sym e) (sym (second-one (n .invalid + 0) (n .undecided) (n .refused + 0)))
+valid-counted z n (kind5 e) = subst (λ (y : ℤ). (isNumber 0 y && noOther n) ≡ noOther (counted y n)) (sym e) (sym (third-one (n .invalid + 0) (n .undecided + 0) (n .refused)))
+valid-counted z n (kind6 e) = subst (λ (y : ℤ). (isNumber 0 y && noOther n) ≡ noOther (counted y n)) (sym e) (sym (third-one (n .invalid + 0) (n .undecided + 0) (n .refused)))
+valid-counted z n (kind7 e) = subst (λ (y : ℤ). (isNumber 0 y && noOther n) ≡ noOther (counted y n)) (sym e) (sym (third-one (n .invalid + 0) (n .undecided + 0) (n .refused)))
+
+every-counted : (rs : List (List ℤ)) → All HasKind rs → every isValid rs ≡ noOther (countsOf rs)
+every-counted [] h = refl
+every-counted (r ∷ rs) h = ap (λ (b : Bool). isValid r && b) (every-counted rs (h .1)) ∙ valid-counted (kindWord r) (countsOf rs) (kind-of (kindWord r) (h .0)) ∙ sym (ap noOther (counts-front r rs))
+
+-- some are counted where any is there
+any-many : (p : List ℤ → Bool) (rs : List (List ℤ)) → any p rs ≡ ltb 0 (howMany p rs)
+any-many p [] = refl
+any-many p (r ∷ rs) = go (p r) (any-many p rs)
+  where
+    go : (b : Bool) → any p rs ≡ ltb 0 (howMany p rs) → (b || any p rs) ≡ ltb 0 (elim b as (λ _. ℕ) [ true ↦ suc (howMany p rs) | false ↦ howMany p rs ])
+    go true h = sym (lt-ltb 0 (suc (howMany p rs)) (omega arith))
+    go false h = h
+
+both : (a b x y : Bool) → ((a || b) || (x || y)) ≡ ((a || x) || (b || y))
+both true b x y = refl
+both false true x y = sym (or-true x)
+both false false x y = refl
+
+any-either : (rs : List (List ℤ)) → any isFaulty rs ≡ (any isInvalid rs || any isRefused rs)
+any-either [] = refl
+any-either (r ∷ rs) = ap (λ (b : Bool). isFaulty r || b) (any-either rs) ∙ both (isInvalid r) (isRefused r) (any isInvalid rs) (any isRefused rs)
 
 any-counted : (rs : List (List ℤ)) → any isFaulty rs ≡ someFaulty (countsOf rs)
-any-counted [] = refl
-any-counted (r ∷ rs) = ap (λ (b : Bool). isFaulty r || b) (any-counted rs) ∙ faulty-counted (natAbs (first r)) (countsOf rs)
+any-counted rs = any-either rs ∙ ap₂ _||_ (any-many isInvalid rs) (any-many isRefused rs)
 
 -- where there is no other record, the valid ones are all
 grouped : (a b c d : Bool) → (a && b && c && d) ≡ (a && (b && c && d))
 grouped true b c d = refl
 grouped false b c d = refl
 
-only-valid : (rs : List (List ℤ)) → onlyValid (countsOf rs) ≡ (ltb 0 (length rs) && every isValid rs)
-only-valid rs =
+only-valid : (rs : List (List ℤ)) → All HasKind rs → onlyValid (countsOf rs) ≡ (ltb 0 (length rs) && every isValid rs)
+only-valid rs kinds =
     let n = countsOf rs in
     grouped (ltb 0 (n .valid)) (eqb (n .invalid) 0) (eqb (n .undecided) 0) (eqb (n .refused) 0)
-    ∙ go (noOther n) refl ∙ ap (λ (b : Bool). ltb 0 (length rs) && b) (sym (every-counted rs))
+    ∙ go (noOther n) refl ∙ ap (λ (b : Bool). ltb 0 (length rs) && b) (sym (every-counted rs kinds))
   where
     go : (b : Bool) → noOther (countsOf rs) ≡ b → (ltb 0 (countsOf rs .valid) && noOther (countsOf rs)) ≡ (ltb 0 (length rs) && noOther (countsOf rs))
     go false e = ap (λ (b : Bool). ltb 0 (countsOf rs .valid) && b) e ∙ and-false (ltb 0 (countsOf rs .valid)) ∙ sym (ap (λ (b : Bool). ltb 0 (length rs) && b) e ∙ and-false (ltb 0 (length rs)))
@@ -86,16 +110,16 @@ only-valid rs =
         let i = eqb-true (n .invalid) 0 (one .0) in
         let u = eqb-true (n .undecided) 0 (one .1) in
         let r = eqb-true (n .refused) 0 (two .1) in
-        let all : n .valid ≡ length rs = omega (arith, counts-total rs) in
+        let all : n .valid ≡ length rs = omega (arith, counts-total rs kinds) in
         ap (λ (k : ℕ). ltb 0 k && noOther n) all
 
-pub stamp-of-records : (rs : List (List ℤ)) → stampOf (countsOf rs) ≡ stampOfRecords rs
-stamp-of-records rs = stamp-is (countsOf rs) (ltb 0 (length rs) && every isValid rs) (any isFaulty rs) (only-valid rs) (sym (any-counted rs))
+pub stamp-of-records : (rs : List (List ℤ)) → All HasKind rs → stampOf (countsOf rs) ≡ stampOfRecords rs
+stamp-of-records rs kinds = stamp-is (countsOf rs) (ltb 0 (length rs) && every isValid rs) (any isFaulty rs) (only-valid rs kinds) (sym (any-counted rs))
 
 -- ---- the stamp of a mesh
--- the records that stand in a report, eight words each
+-- the records that stand in a report, one after the other
 abbrev pub recordsIn : List ℤ → List (List ℤ)
-recordsIn words = tabulate (λ e. take 8 (drop (8 * e) words)) 0 (length words / 8)
+recordsIn words = tabulate (λ e. take recordWords (drop (recordWords * e) words)) 0 (length words / recordWords)
 
 module _ (L : Limits) (coordinates : List ℤ) (indices : List ℕ) (D : ℕ) where
   -- no record is lost between the two
@@ -103,9 +127,9 @@ module _ (L : Limits) (coordinates : List ℤ) (indices : List ℕ) (D : ℕ) wh
   unfolding records
   records-in-report =
       let n = length indices / 8 in
-      let eighth : length (report L coordinates indices D) / 8 ≡ n = omega (arith, report-length L coordinates indices D) in
-      ap (tabulate (λ e. take 8 (drop (8 * e) (report L coordinates indices D))) 0) eighth
-      ∙ tabulate-cong (λ e. take 8 (drop (8 * e) (report L coordinates indices D))) (recordAt L coordinates indices D) 0 n (λ e h. report-part L coordinates indices D e (omega arith))
+      let as-many : length (report L coordinates indices D) / recordWords ≡ n = omega (arith, report-length L coordinates indices D) in
+      ap (tabulate (λ e. take recordWords (drop (recordWords * e) (report L coordinates indices D))) 0) as-many
+      ∙ tabulate-cong (λ e. take recordWords (drop (recordWords * e) (report L coordinates indices D))) (recordAt L coordinates indices D) 0 n (λ e h. report-part L coordinates indices D e (omega arith))
 
 -- what the report space gives, read record by record: nothing where the mesh is refused
 abbrev pub stampRead : Option MeshRefusal → List ℤ → Option Stamp
@@ -114,7 +138,7 @@ stampRead none words = some (stampOfRecords (recordsIn words))
 
 module _ (L : Limits) (coordinates : List ℤ) (indices : List ℕ) where
   accepted-stamp : (space : List ℤ) (D : ℕ) → refusalHere L coordinates indices space D ≡ none → stampGiven (inspection L coordinates indices (length space) D) ≡ some (stampOfRecords (records L coordinates indices D))
-  accepted-stamp space D e = ap stampGiven (accepted-answer L coordinates indices space D e) ∙ ap some (stamp-of-records (records L coordinates indices D))
+  accepted-stamp space D e = ap stampGiven (accepted-answer L coordinates indices space D e) ∙ ap some (stamp-of-records (records L coordinates indices D) (records-kinds L coordinates indices D))
 
   -- The stamp of an inspection's answer is the one that the records in the report space give; a refused mesh has none.
   pub stamp-as-read : (space : List ℤ) (D : ℕ) → stampGiven (inspection L coordinates indices (length space) D) ≡ stampRead (refusalHere L coordinates indices space D) (reportAfter L coordinates indices space D)
@@ -127,18 +151,18 @@ module _ (L : Limits) (coordinates : List ℤ) (indices : List ℕ) where
           ∙ sym (ap₂ stampRead e (accepted-space L coordinates indices space D e))
 
 -- ---- a closer look
-valid-decided : (r : List ℤ) → isValid r ≡ true → first r ≡ pos 2 → ⊥
-valid-decided r e p = omega (arith, eqb-true (natAbs (first r)) 0 e, ap natAbs p)
+valid-decided : (r : List ℤ) → isValid r ≡ true → kindWord r ≡ pos 2 → ⊥
+valid-decided r e p = let q : pos 0 ≡ pos 2 = sym (number-is 0 (kindWord r) e) ∙ p in omega (arith, ap natAbs q)
 
-faulty-decided : (r : List ℤ) → isFaulty r ≡ true → first r ≡ pos 2 → ⊥
-faulty-decided r e p = true≢false (sym e ∙ ap (λ (z : ℤ). eqb (natAbs z) 1 || ltb 2 (natAbs z)) p)
+faulty-decided : (r : List ℤ) → isFaulty r ≡ true → kindWord r ≡ pos 2 → ⊥
+faulty-decided r e p = true≢false (sym e ∙ ap (λ (z : ℤ). isNumber 1 z || isRefusal z) p)
 
 faulty-not-valid : (r : List ℤ) → isFaulty r ≡ true → isValid r ≡ false
-faulty-not-valid r e = go (natAbs (first r)) e
+faulty-not-valid r e = go (isValid r) refl
   where
-    go : (k : ℕ) → (eqb k 1 || ltb 2 k) ≡ true → eqb k 0 ≡ false
-    go zero e = absurd (true≢false (sym e))
-    go (suc k) e = eqb·suc-zero k
+    go : (b : Bool) → isValid r ≡ b → isValid r ≡ false
+    go false v = v
+    go true v = absurd (true≢false (sym e ∙ ap (λ (z : ℤ). isNumber 1 z || isRefusal z) (number-is 0 (kindWord r) v)))
 
 any-not-every : (rs : List (List ℤ)) → any isFaulty rs ≡ true → every isValid rs ≡ false
 any-not-every [] e = absurd (true≢false (sym e))
@@ -149,7 +173,7 @@ any-not-every (r ∷ rs) e = go (isFaulty r) refl (any-not-every rs)
     go false f next = ap (λ (b : Bool). isValid r && b) (next (sym (ap (λ (b : Bool). b || any isFaulty rs) f) ∙ e)) ∙ and-false (isValid r)
 
 -- two runs of records; where the first has one that is not undecided, the second has the same
-module _ (f g : ℕ → List ℤ) (same : (k : ℕ) → (first (f k) ≡ pos 2 → ⊥) → g k ≡ f k) where
+module _ (f g : ℕ → List ℤ) (same : (k : ℕ) → (kindWord (f k) ≡ pos 2 → ⊥) → g k ≡ f k) where
   every-kept : (i n : ℕ) → every isValid (tabulate f i n) ≡ true → tabulate g i n ≡ tabulate f i n
   every-kept i zero e = refl
   every-kept i (suc n) e = let two = and-eq-true-iff (isValid (f i)) (every isValid (tabulate f (suc i) n)) .0 e in ap₂ _∷_ (same i (valid-decided (f i) (two .0))) (every-kept (suc i) n (two .1))

@@ -8,23 +8,22 @@ use Rattle.foundation.specs.Lists.{all-append, all-image, all-every}
 use Rattle.foundation.specs.Polynomial.{Expr, var, integers, expressions, eval}
 use Rattle.foundation.specs.Bound.{bound, bound-is}
 use Rattle.foundation.specs.Words.{args, within}
-use Rattle.definitions.specs.Limits.{base}
 use Rattle.definitions.specs.Jacobian.{Nodes, nodesOf}
 use Rattle.definitions.specs.Coefficients.{edge, middle, cornerVolume, edgeVolume, volumes, cornerTetrahedra, edgeTetrahedra}
-use Rattle.narrow_coefficients.specs.Range.{InRange, volumeLimit}
+use Rattle.narrow_coefficients.specs.Range.{narrowRange, InRange, volumeLimit, edgeLimit, middleLimit}
 
 -- coordinates as unknowns
 abbrev unknowns : Nodes Expr
 unknowns k e = var (3 * k + e)
 
-module _ {xs : List ℤ} (h : InRange (base .range) xs) where
-  bounded : (f : Expr) → natAbs (eval (args xs) f) ≤ bound (λ _. base .range) f
-  bounded = bound-is (args xs) (λ _. base .range) (h .small)
+module _ {xs : List ℤ} (h : InRange narrowRange xs) where
+  bounded : (f : Expr) → natAbs (eval (args xs) f) ≤ bound (λ _. narrowRange) f
+  bounded = bound-is (args xs) (λ _. narrowRange) (h .small)
 
-  pub edge-small : (a b e : ℕ) → natAbs (edge integers (nodesOf xs) a b e) ≤ 8192
+  pub edge-small : (a b e : ℕ) → natAbs (edge integers (nodesOf xs) a b e) ≤ edgeLimit
   edge-small a b e = bounded (edge expressions unknowns a b e)
 
-  pub middle-small : (a b c e : ℕ) → natAbs (middle integers (nodesOf xs) a b c e) ≤ 16384
+  pub middle-small : (a b c e : ℕ) → natAbs (middle integers (nodesOf xs) a b c e) ≤ middleLimit
   middle-small a b c e = bounded (middle expressions unknowns a b c e)
 
   corner-small : (t : List ℕ) → natAbs (cornerVolume integers (nodesOf xs) t) ≤ volumeLimit

@@ -11,21 +11,20 @@ use mir.Val.{toZ, ofZ}
 use Rattle.foundation.specs.Polynomial.{integers}
 use Rattle.foundation.specs.Words.{Within}
 use Rattle.foundation.specs.Held.{Rep}
-use Rattle.definitions.specs.Limits.{base}
 use Rattle.definitions.specs.Jacobian.{nodesOf, det}
 use Rattle.definitions.specs.Coefficients.{edge, middle}
-use Rattle.narrow_coefficients.specs.Range.{InRange, vector}
+use Rattle.narrow_coefficients.specs.Range.{narrowRange, InRange, vector, middleLimit}
 use Rattle.narrow_coefficients.proofs.Results.{answered, small, read-back}
 use Rattle.narrow_coefficients.proofs.Sizes.{edge-small, middle-small}
 
 -- the bits x, y, z hold the vector u
 pub record HeldVector (x y z : ℕ) (u : ℕ → ℤ) : Type 0 where
-  pub on-x : Rep x (u 0) 16384
-  pub on-y : Rep y (u 1) 16384
-  pub on-z : Rep z (u 2) 16384
+  pub on-x : Rep x (u 0) middleLimit
+  pub on-y : Rep y (u 1) middleLimit
+  pub on-z : Rep z (u 2) middleLimit
 
 module _ {ux uy uz vx vy vz wx wy wz : ℕ} {u v w : ℕ → ℤ} (p : HeldVector ux uy uz u) (q : HeldVector vx vy vz v) (r : HeldVector wx wy wz w) where
-  pub vectors-within : Within 16384 (toZ w64 ux ∷ toZ w64 uy ∷ toZ w64 uz ∷ toZ w64 vx ∷ toZ w64 vy ∷ toZ w64 vz ∷ toZ w64 wx ∷ toZ w64 wy ∷ toZ w64 wz ∷ [])
+  pub vectors-within : Within middleLimit (toZ w64 ux ∷ toZ w64 uy ∷ toZ w64 uz ∷ toZ w64 vx ∷ toZ w64 vy ∷ toZ w64 vz ∷ toZ w64 wx ∷ toZ w64 wy ∷ toZ w64 wz ∷ [])
   vectors-within = (
     small (p .on-x),
     (
@@ -47,10 +46,10 @@ module _ {ux uy uz vx vy vz wx wy wz : ℕ} {u v w : ℕ → ℤ} (p : HeldVecto
       (vector (r .on-x .value i) (r .on-y .value i) (r .on-z .value i)))
 
 -- three results that are a vector's coordinates
-vector-held : (u : ℕ → ℤ) → ((e : ℕ) → natAbs (u e) ≤ 16384) → {x y z : ℤ} → x ≡ u 0 → y ≡ u 1 → z ≡ u 2 → HeldVector (ofZ w64 x) (ofZ w64 y) (ofZ w64 z) u
-vector-held u h p q r = record { on-x = answered 16384 p (h 0) tt; on-y = answered 16384 q (h 1) tt; on-z = answered 16384 r (h 2) tt }
+vector-held : (u : ℕ → ℤ) → ((e : ℕ) → natAbs (u e) ≤ middleLimit) → {x y z : ℤ} → x ≡ u 0 → y ≡ u 1 → z ≡ u 2 → HeldVector (ofZ w64 x) (ofZ w64 y) (ofZ w64 z) u
+vector-held u h p q r = record { on-x = answered middleLimit p (h 0) tt; on-y = answered middleLimit q (h 1) tt; on-z = answered middleLimit r (h 2) tt }
 
-module _ {xs : List ℤ} (h : InRange (base .range) xs) {x y z : ℤ} where
+module _ {xs : List ℤ} (h : InRange narrowRange xs) {x y z : ℤ} where
   pub edge-held : (a b : ℕ) → x ≡ edge integers (nodesOf xs) a b 0 → y ≡ edge integers (nodesOf xs) a b 1 → z ≡ edge integers (nodesOf xs) a b 2
       → HeldVector (ofZ w64 x) (ofZ w64 y) (ofZ w64 z) (edge integers (nodesOf xs) a b)
   edge-held a b = vector-held (edge integers (nodesOf xs) a b) (λ e. le-trans (edge-small h a b e) (lit≤ tt))

@@ -1,9 +1,12 @@
 -- What the functions ask of their numbers, and vectors by their coordinates.
 use mathlib.Core.List.{List, [], _∷_}
-use Prim.Native.Nat.{ℕ, _*_, _≤_}
+use Prim.Native.Nat.{ℕ, _*_, _^_, _≤_}
 use lib.ListN.{getD}
 use lib.IntN.{ℤ, pos, natAbs}
-use Rattle.definitions.specs.Limits.{base}
+
+-- coordinates up to this magnitude have volumes and sums of rows that fit one word
+abbrev pub narrowRange : ℕ
+narrowRange = 2 ^ 16
 
 -- every number of the list lies in −limit..limit
 pub record InRange (limit : ℕ) (xs : List ℤ) : Type 0 where
@@ -17,5 +20,11 @@ abbrev pub vector : ℤ → ℤ → ℤ → ℕ → ℤ
 vector x y z e = getD (x ∷ y ∷ z ∷ []) e (pos 0)
 
 -- An edge is at most twice the range, the sum of two edges at most four times, and a determinant has six products.
+abbrev pub edgeLimit : ℕ
+edgeLimit = 2 * narrowRange
+
+abbrev pub middleLimit : ℕ
+middleLimit = 4 * narrowRange
+
 abbrev pub volumeLimit : ℕ
-volumeLimit = 6 * ((2 * base .range) * ((4 * base .range) * (4 * base .range)))
+volumeLimit = 6 * (edgeLimit * (middleLimit * middleLimit))

@@ -6,9 +6,8 @@ ghost use mathlib.Core.Path.{_≡_};
 ghost use Prim.Native.Nat.{_<_, _≤_};
 ghost use Rattle.foundation.specs.Lists.{tabulate};
 ghost use Rattle.foundation.specs.Polynomial.{integers};
-ghost use Rattle.definitions.specs.Limits.{base};
 ghost use Rattle.definitions.specs.Coefficients.{row, dot, coefficients};
-ghost use Rattle.narrow_coefficients.specs.Range.{InRange, volumeLimit};
+ghost use Rattle.narrow_coefficients.specs.Range.{narrowRange, InRange, volumeLimit};
 ghost use Rattle.narrow_coefficients.specs.Rows.{FirstRows};
 ghost use Rattle.coefficient_table.specs.Sparse.{AreSparseRows};
 
@@ -80,7 +79,7 @@ fn rows(
 
 // The 27 coefficients, times 8, in the order of their numbers. The eight points p are in place order, x, y, z of each. All of out is written.
 pub fn coefficients(p: &[i32; 24], out: &mut [i64; 27])
-    requires { ⌜ InRange (base .range) (now p) ⌝ }
+    requires { ⌜ InRange narrowRange (now p) ⌝ }
     ensures { λ _. ⌜ now (out .exit) ≡ coefficients (now (p .entry)) ⌝ }
 {
     let lists = coefficient_table::sparse::lists();

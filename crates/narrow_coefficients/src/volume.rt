@@ -4,10 +4,9 @@ ghost use mathlib.Core.List.{[], _∷_};
 ghost use Prim.Native.Nat.{_-_, _<_};
 ghost use Rattle.foundation.specs.Polynomial.{integers};
 ghost use Rattle.foundation.specs.Words.{Within};
-ghost use Rattle.definitions.specs.Limits.{base};
 ghost use Rattle.definitions.specs.Jacobian.{nodesOf, det};
 ghost use Rattle.definitions.specs.Coefficients.{edge, middle, cornerVolume, edgeVolume, volumes};
-ghost use Rattle.narrow_coefficients.specs.Range.{InRange, Node, vector};
+ghost use Rattle.narrow_coefficients.specs.Range.{narrowRange, InRange, Node, vector, middleLimit};
 
 // Node a's coordinate on axis e.
 fn coordinate(p: &[i32; 24], a: usize, e: usize) -> i64
@@ -19,7 +18,7 @@ fn coordinate(p: &[i32; 24], a: usize, e: usize) -> i64
 
 // From node a to node b on axis e.
 fn edge(p: &[i32; 24], a: usize, b: usize, e: usize) -> i64
-    requires { ⌜ InRange (base .range) (now p) ⌝ ∗ ⌜ Node a × Node b × (e < 3) ⌝ }
+    requires { ⌜ InRange narrowRange (now p) ⌝ ∗ ⌜ Node a × Node b × (e < 3) ⌝ }
     ensures { λ r. ⌜ r ≡ edge integers (nodesOf (now (p .entry))) a b e ⌝ }
 {
     coordinate(p, b, e) - coordinate(p, a, e)
@@ -27,7 +26,7 @@ fn edge(p: &[i32; 24], a: usize, b: usize, e: usize) -> i64
 
 // From node a to the middle of nodes b and c on axis e, twice.
 fn middle(p: &[i32; 24], a: usize, b: usize, c: usize, e: usize) -> i64
-    requires { ⌜ InRange (base .range) (now p) ⌝ ∗ ⌜ Node a × Node b × Node c × (e < 3) ⌝ }
+    requires { ⌜ InRange narrowRange (now p) ⌝ ∗ ⌜ Node a × Node b × Node c × (e < 3) ⌝ }
     ensures { λ r. ⌜ r ≡ middle integers (nodesOf (now (p .entry))) a b c e ⌝ }
 {
     edge(p, a, b, e) + edge(p, a, c, e)
@@ -45,7 +44,7 @@ fn determinant(
     wy: i64,
     wz: i64,
 ) -> i64
-    requires { ⌜ Within 16384 (ux ∷ uy ∷ uz ∷ vx ∷ vy ∷ vz ∷ wx ∷ wy ∷ wz ∷ []) ⌝ }
+    requires { ⌜ Within middleLimit (ux ∷ uy ∷ uz ∷ vx ∷ vy ∷ vz ∷ wx ∷ wy ∷ wz ∷ []) ⌝ }
     ensures { λ r. ⌜ r ≡ det integers (vector ux uy uz) (vector vx vy vz) (vector wx wy wz) ⌝ }
 {
     ux * (vy * wz - vz * wy) - uy * (vx * wz - vz * wx) + uz * (vx * wy - vy * wx)
@@ -53,7 +52,7 @@ fn determinant(
 
 // J at corner a, whose neighbours are b, c, d.
 fn at_corner(p: &[i32; 24], a: usize, b: usize, c: usize, d: usize) -> i64
-    requires { ⌜ InRange (base .range) (now p) ⌝ ∗ ⌜ Node a × Node b × Node c × Node d ⌝ }
+    requires { ⌜ InRange narrowRange (now p) ⌝ ∗ ⌜ Node a × Node b × Node c × Node d ⌝ }
     ensures { λ r. ⌜ r ≡ cornerVolume integers (nodesOf (now (p .entry))) (a ∷ b ∷ c ∷ d ∷ []) ⌝ }
 {
     determinant(
@@ -71,7 +70,7 @@ fn at_corner(p: &[i32; 24], a: usize, b: usize, c: usize, d: usize) -> i64
 
 // Four times J at the middle of edge a-b. The tetrahedron's other vertices are the middles of c and d and of e and f.
 fn at_edge(p: &[i32; 24], a: usize, b: usize, c: usize, d: usize, e: usize, f: usize) -> i64
-    requires { ⌜ InRange (base .range) (now p) ⌝ ∗ ⌜ Node a × Node b × Node c × Node d × Node e × Node f ⌝ }
+    requires { ⌜ InRange narrowRange (now p) ⌝ ∗ ⌜ Node a × Node b × Node c × Node d × Node e × Node f ⌝ }
     ensures { λ r. ⌜ r ≡ edgeVolume integers (nodesOf (now (p .entry))) (a ∷ b ∷ c ∷ d ∷ e ∷ f ∷ []) ⌝ }
 {
     determinant(
@@ -89,7 +88,7 @@ fn at_edge(p: &[i32; 24], a: usize, b: usize, c: usize, d: usize, e: usize, f: u
 
 // The twenty volumes, corners 1 to 8 and then edges 9 to 20, each by the nodes of its tetrahedron.
 pub fn volumes(p: &[i32; 24]) -> [i64; 20]
-    requires { ⌜ InRange (base .range) (now p) ⌝ }
+    requires { ⌜ InRange narrowRange (now p) ⌝ }
     ensures { λ r. ⌜ r ≡ volumes integers (nodesOf (now (p .entry))) ⌝ }
 {
     [

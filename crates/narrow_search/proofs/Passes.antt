@@ -1,6 +1,6 @@
 -- The words of a pass as the code reads and writes them. Assumes nothing.
 use mathlib.Core.Path.{_≡_, refl, sym, _∙_, ap}
-use mathlib.Core.List.{List}
+use mathlib.Core.List.{List, [], _∷_}
 use Prim.Native.Nat.{ℕ}
 use native.Mathlib.Omega.{arith}
 use lib.Dec.{eqb}
@@ -8,12 +8,12 @@ use lib.ListN.{getD, set}
 use lib.IntN.{ℤ, pos}
 use mir.Syntax.{w64}
 use mir.Val.{ofZ}
-use Rattle.definitions.specs.Record.{words, verdictWords}
+use Rattle.definitions.specs.Record.{verdictWords}
 use Rattle.definitions.specs.Verdict.{Finding}
 use Rattle.verdict_theory.specs.Search.{Found, nothing, coefficient, point, Pass, ended}
-use Rattle.narrow_search.specs.Meaning.{foundWords, passWords}
-use Rattle.narrow_search.specs.Lowest.{withCoefficient}
-use Rattle.narrow_search.specs.Levels.{isBlocked, outcome}
+use Rattle.narrow_search.specs.Meaning.{layout, foundWords, passWords}
+use Rattle.search_theory.specs.Lowest.{withCoefficient}
+use Rattle.search_theory.specs.Levels.{isBlocked, outcome}
 
 -- word 0
 kind-ended : (o : Found) (n : ℕ) → eqb (ofZ w64 (getD (foundWords o n) 0 (pos 0))) 1 ≡ ended o
@@ -48,40 +48,43 @@ kind-stays (point g) n h f = refl
 pub stays-word : (ws : List ℤ) (p : Pass) → ws ≡ passWords p → (ofZ w64 (getD ws 0 (pos 0)) ≡ 0 → ⊥) → (f : Finding) → p .found ≡ withCoefficient (p .found) f
 stays-word ws p e h = kind-stays (p .found) (p .count) (λ z. h (ap (λ (l : List ℤ). ofZ w64 (getD l 0 (pos 0))) e ∙ z))
 
--- word 1
-level-put : (o : Found) (n l : ℕ) → set (foundWords o n) 1 (pos l) ≡ verdictWords (outcome l o) n
-level-put nothing n l = refl
-level-put (coefficient f) n l = refl
-level-put (point f) n l = refl
-
-pub settled-word : (ws : List ℤ) (p : Pass) (l : ℕ) (v : ℤ) → ws ≡ passWords p → v ≡ pos l → set ws 1 v ≡ verdictWords (outcome l (p .found)) (p .count)
-settled-word ws p l v e h = (λ i. set (e i) 1 (h i)) ∙ level-put (p .found) (p .count) l
-
--- word 7
-last-word : (o : Found) (n : ℕ) → getD (foundWords o n) 7 (pos 0) ≡ pos n
+-- word 6
+last-word : (o : Found) (n : ℕ) → getD (foundWords o n) 6 (pos 0) ≡ pos n
 last-word nothing n = refl
 last-word (coefficient f) n = refl
 last-word (point f) n = refl
 
-pub count-word : (ws : List ℤ) (p : Pass) → ws ≡ passWords p → getD ws 7 (pos 0) ≡ pos (p .count)
-count-word ws p e = ap (λ (l : List ℤ). getD l 7 (pos 0)) e ∙ last-word (p .found) (p .count)
+pub count-word : (ws : List ℤ) (p : Pass) → ws ≡ passWords p → getD ws 6 (pos 0) ≡ pos (p .count)
+count-word ws p e = ap (λ (l : List ℤ). getD l 6 (pos 0)) e ∙ last-word (p .found) (p .count)
 
-last-put : (o : Found) (n m : ℕ) → set (foundWords o n) 7 (pos m) ≡ foundWords o m
+last-put : (o : Found) (n m : ℕ) → set (foundWords o n) 6 (pos m) ≡ foundWords o m
 last-put nothing n m = refl
 last-put (coefficient f) n m = refl
 last-put (point f) n m = refl
 
-pub count-put : (ws : List ℤ) (p : Pass) (n : ℕ) (v : ℤ) → ws ≡ passWords p → v ≡ pos n → set ws 7 v ≡ passWords (record { count = n; found = p .found })
-count-put ws p n v e h = (λ i. set (e i) 7 (h i)) ∙ last-put (p .found) (p .count) n
+pub count-put : (ws : List ℤ) (p : Pass) (n : ℕ) (v : ℤ) → ws ≡ passWords p → v ≡ pos n → set ws 6 v ≡ passWords (record { count = n; found = p .found })
+count-put ws p n v e h = (λ i. set (e i) 6 (h i)) ∙ last-put (p .found) (p .count) n
 
--- all words but the level's and the count
+-- all words but the count
 abbrev put : List ℤ → ℤ → ℤ → ℤ → ℤ → ℤ → ℤ → List ℤ
-put ws k a b c n v = set (set (set (set (set (set ws 0 k) 2 a) 3 b) 4 c) 5 n) 6 v
+put ws k a b c n v = set (set (set (set (set (set ws 0 k) 1 a) 2 b) 3 c) 4 n) 5 v
 
-put-words : (o : Found) (m : ℕ) (k a b c n : ℕ) (v : ℤ) → put (foundWords o m) (pos k) (pos a) (pos b) (pos c) (pos n) v ≡ words k 0 a b c n v m
+put-words : (o : Found) (m : ℕ) (k a b c n : ℕ) (v : ℤ) → put (foundWords o m) (pos k) (pos a) (pos b) (pos c) (pos n) v ≡ layout k a b c n v m
 put-words nothing m k a b c n v = refl
 put-words (coefficient f) m k a b c n v = refl
 put-words (point f) m k a b c n v = refl
 
-pub noted : (ws : List ℤ) (p : Pass) (k a b c n : ℕ) (v : ℤ) → ws ≡ passWords p → put ws (pos k) (pos a) (pos b) (pos c) (pos n) v ≡ words k 0 a b c n v (p .count)
+pub noted : (ws : List ℤ) (p : Pass) (k a b c n : ℕ) (v : ℤ) → ws ≡ passWords p → put ws (pos k) (pos a) (pos b) (pos c) (pos n) v ≡ layout k a b c n v (p .count)
 noted ws p k a b c n v e = ap (λ (l : List ℤ). put l (pos k) (pos a) (pos b) (pos c) (pos n) v) e ∙ put-words (p .found) (p .count) k a b c n v
+
+-- the words of a pass with a level between them are a record
+abbrev pub withLevel : ℕ → List ℤ → List ℤ
+withLevel l ws = getD ws 0 (pos 0) ∷ pos l ∷ getD ws 1 (pos 0) ∷ getD ws 2 (pos 0) ∷ getD ws 3 (pos 0) ∷ getD ws 4 (pos 0) ∷ getD ws 5 (pos 0) ∷ getD ws 6 (pos 0) ∷ []
+
+level-put : (o : Found) (n l : ℕ) → withLevel l (foundWords o n) ≡ verdictWords (outcome l o) n
+level-put nothing n l = refl
+level-put (coefficient f) n l = refl
+level-put (point f) n l = refl
+
+pub settled-words : (ws : List ℤ) (p : Pass) (l : ℕ) → ws ≡ passWords p → withLevel l ws ≡ verdictWords (outcome l (p .found)) (p .count)
+settled-words ws p l e = ap (withLevel l) e ∙ level-put (p .found) (p .count) l

@@ -1,7 +1,1 @@
 pub mod Meaning
-pub mod Lowest
-pub mod Children
-pub mod Visit
-pub mod Levels
-pub mod Bounds
-pub mod Points

@@ -1,25 +1,31 @@
-// Inner: for the inspector's own crates. The recursive search of an element's cells, and its bounds.
+// The recursive search of an element's cells, and its bounds, with numbers of one word. An inner crate, for the inspector's own crates: its
+// callers see to it that the numbers stay small enough at every level that is asked for (`Small`).
 ghost use mathlib.Core.Path.{_≡_};
 ghost use mathlib.Core.Bool.{false};
 ghost use mathlib.Core.List.{List};
-ghost use Prim.Native.Nat.{ℕ, _+_, _-_, _%_, _^_, _<_, _≤_};
-ghost use lib.ListN.{length, take, getD};
-ghost use lib.IntN.{ℤ, pos, natAbs};
+ghost use Prim.Native.Nat.{_+_, _^_, _<_, _≤_};
+ghost use lib.ListN.{length, take};
+ghost use lib.IntN.{ℤ};
 ghost use Rattle.foundation.specs.Least.{lesser as lesserOf, leastFrom};
-ghost use Rattle.definitions.specs.Limits.{base};
 ghost use Rattle.definitions.specs.Jacobian.{side};
 ghost use Rattle.definitions.specs.Coefficients.{coefficients};
-ghost use Rattle.definitions.specs.Record.{words, verdictWords, recordOf};
+ghost use Rattle.definitions.specs.Record.{verdictWords, recordOf};
 ghost use Rattle.definitions.specs.Subdivision.{halve, Cell};
+ghost use Rattle.expansion_theory.specs.Control.{Cuttable};
 ghost use Rattle.verdict_theory.specs.Search.{Pass, ended as hasEnded, openCell, visit as visited};
 ghost use Rattle.verdict_theory.specs.Extremes.{extremes as extremesBelow};
 ghost use Rattle.verdict_theory.specs.Clear.{more, openedClear};
-ghost use Rattle.narrow_subdivision.specs.Control.{Control};
-ghost use Rattle.narrow_search.specs.Meaning.{cellOf, lowest as lowestOf, passWords, Held, Small, Room};
-ghost use Rattle.narrow_search.specs.Children.{Ready, Run};
-ghost use Rattle.narrow_search.specs.Levels.{wholeOf, fresh, isBlocked, outcome};
-ghost use Rattle.narrow_search.specs.Bounds.{extremesOf, withControl, boundsAt};
-ghost use Rattle.narrow_search.specs.Points.{OfPoints};
+ghost use Rattle.search_theory.specs.Meaning.{cellOf, lowest as lowestOf, Small, deepest, Room, Held};
+ghost use Rattle.search_theory.specs.Children.{Ready, Run};
+ghost use Rattle.search_theory.specs.Levels.{wholeOf, fresh, isBlocked, outcome};
+ghost use Rattle.search_theory.specs.Bounds.{withControl, boundsAt};
+ghost use Rattle.narrow_subdivision.specs.Word.{largest};
+ghost use Rattle.narrow_search.specs.Meaning.{layout, passWords, extremesOf};
+use limits::RECORD_WORDS;
+
+// The words of a pass: what was found (0 nothing, 1 a low corner, 2 a low coefficient), its grid numbers, its number, its value, and how
+// many cells were opened.
+const PASS_WORDS: usize = 7;
 
 // The lowest number of a coefficient that is not above 0, from 1; 0 where there is none.
 fn lowest(g: &[i64; 27]) -> usize
@@ -34,11 +40,8 @@ fn lowest(g: &[i64; 27]) -> usize
     0
 }
 
-// A pass is lent as eight words, those of a record: what was found (0 nothing, 1 a low corner, 2 a low coefficient), 0, grid numbers,
-// number and value of the finding, and how many cells were opened.
-
 // Whether a low corner was found.
-fn ended(pass: &[i64; 8]) -> bool
+fn ended(pass: &[i64; PASS_WORDS]) -> bool
     ensures { λ r. ⌜ ((p : Pass) → now (pass .entry) ≡ passWords p → r ≡ hasEnded (p .found)) ⌝ }
 {
     let kind = pass[0];
@@ -46,30 +49,30 @@ fn ended(pass: &[i64; 8]) -> bool
 }
 
 // So many cells more were opened.
-fn add_opened(n: u32, pass: &mut [i64; 8])
-    requires { ⌜ Held n (now pass) ⌝ }
+fn add_opened(n: u32, pass: &mut [i64; PASS_WORDS])
+    requires { ⌜ Held passWords n (now pass) ⌝ }
     ensures { λ _. ⌜ ((p : Pass) → now (pass .entry) ≡ passWords p → now (pass .exit) ≡ passWords (more n p)) ⌝ }
 {
-    let count = pass[7];
-    pass[7] = count + n as i64;
+    let count = pass[6];
+    pass[6] = count + n as i64;
 }
 
 // A finding in place of what was found before; kind 0 and zeros, to forget it.
-fn note(kind: u32, a: u32, b: u32, c: u32, number: u32, value: i64, pass: &mut [i64; 8])
-    ensures { λ _. ⌜ ((p : Pass) → now (pass .entry) ≡ passWords p → now (pass .exit) ≡ words kind 0 a b c number value (p .count)) ⌝ }
+fn note(kind: u32, a: u32, b: u32, c: u32, number: u32, value: i64, pass: &mut [i64; PASS_WORDS])
+    ensures { λ _. ⌜ ((p : Pass) → now (pass .entry) ≡ passWords p → now (pass .exit) ≡ layout kind a b c number value (p .count)) ⌝ }
 {
     pass[0] = kind as i64;
-    pass[2] = a as i64;
-    pass[3] = b as i64;
-    pass[4] = c as i64;
-    pass[5] = number as i64;
-    pass[6] = value;
+    pass[1] = a as i64;
+    pass[2] = b as i64;
+    pass[3] = c as i64;
+    pass[4] = number as i64;
+    pass[5] = value;
 }
 
 // A cell of the last level with a low coefficient, the lowest that of number n: one cell more, and a low corner, or a low coefficient
 // where nothing low was found before.
-fn open_low(g: &[i64; 27], a: u32, b: u32, c: u32, n: usize, pass: &mut [i64; 8])
-    requires { ⌜ Room (now g) a b c 0 × Held 1 (now pass) ⌝ }
+fn open_low(g: &[i64; 27], a: u32, b: u32, c: u32, n: usize, pass: &mut [i64; PASS_WORDS])
+    requires { ⌜ Room largest (now g) a b c 0 × Held passWords 1 (now pass) ⌝ }
     requires { ⌜ (n ≡ lowestOf (now g)) × (0 < n) × (n ≤ 27) ⌝ }
     ensures { λ _. ⌜ ((p : Pass) → now (pass .entry) ≡ passWords p → hasEnded (p .found) ≡ false → now (pass .exit) ≡ passWords (openCell (cellOf a b c (now (g .entry))) p)) ⌝ }
 {
@@ -95,8 +98,8 @@ fn open_low(g: &[i64; 27], a: u32, b: u32, c: u32, n: usize, pass: &mut [i64; 8]
 }
 
 // So many cells without a low coefficient, with `left` levels below them: they are opened where they are of the last level.
-fn skip(n: u32, left: u32, pass: &mut [i64; 8])
-    requires { ⌜ Held n (now pass) ⌝ }
+fn skip(n: u32, left: u32, pass: &mut [i64; PASS_WORDS])
+    requires { ⌜ Held passWords n (now pass) ⌝ }
     ensures { λ _. ⌜ ((p : Pass) → now (pass .entry) ≡ passWords p → now (pass .exit) ≡ passWords (more (openedClear n left) p)) ⌝ }
 {
     if left == 0 {
@@ -106,7 +109,7 @@ fn skip(n: u32, left: u32, pass: &mut [i64; 8])
 
 // The half of c in direction d that child k, 0 to 7, lies in: made where child k is the first in it, else there already.
 fn half_at(d: u32, first: bool, c: &[i64; 27], k: u32, out: &mut [i64; 27])
-    requires { ⌜ Control (2 ^ 61 - 1) (now c) × (d < 3) × (length (now out) ≡ 27) ⌝ }
+    requires { ⌜ Cuttable largest (now c) × (d < 3) × (length (now out) ≡ 27) ⌝ }
     requires { ⌜ (first ≡ false → now out ≡ halve d (side d k) (now c)) ⌝ }
     ensures { λ _. ⌜ now (out .exit) ≡ halve d (side d k) (now (c .entry)) ⌝ }
 {
@@ -118,7 +121,7 @@ fn half_at(d: u32, first: bool, c: &[i64; 27], k: u32, out: &mut [i64; 27])
 // How many children from k on are known to have no low coefficient: 4 where their half has none, 2 where their quarter has none. The half
 // is tested where child k is the first in it, and so is the quarter; 0 says nothing, and the quarter is there to make child k from.
 fn clear(g: &[i64; 27], k: u32, half: &mut [i64; 27], quarter: &mut [i64; 27]) -> u32
-    requires { ⌜ Control (2 ^ 57 - 1) (now g) × (k < 8) × Ready (now g) k (now half) (now quarter) ⌝ }
+    requires { ⌜ Small largest (now g) 1 × (k < 8) × Ready (now g) k (now half) (now quarter) ⌝ }
     ensures { λ n. ⌜ Run (now (g .entry)) k n (now (half .exit)) (now (quarter .exit)) ⌝ }
 {
     half_at(2, k % 4 == 0, g, k, half);
@@ -138,8 +141,8 @@ fn clear(g: &[i64; 27], k: u32, half: &mut [i64; 27], quarter: &mut [i64; 27]) -
 
 // The due cells `left` levels below this one, in path order, after what was found before: a cell with a low coefficient is cut into
 // its eight children, by halves, and children that are known to have none are passed over.
-fn visit(g: &[i64; 27], a: u32, b: u32, c: u32, left: u32, pass: &mut [i64; 8])
-    requires { ⌜ Room (now g) a b c left × Held (8 ^ left) (now pass) ⌝ }
+fn visit(g: &[i64; 27], a: u32, b: u32, c: u32, left: u32, pass: &mut [i64; PASS_WORDS])
+    requires { ⌜ Room largest (now g) a b c left × Held passWords (8 ^ left) (now pass) ⌝ }
     ensures { λ _. ⌜ ((p : Pass) → now (pass .entry) ≡ passWords p → now (pass .exit) ≡ passWords (visited left (cellOf a b c (now (g .entry))) p)) ⌝ }
 {
     if ended(pass) {
@@ -178,8 +181,8 @@ fn visit(g: &[i64; 27], a: u32, b: u32, c: u32, left: u32, pass: &mut [i64; 8])
 }
 
 // The pass of a level over the whole element, after a pass of which the count of cells stays.
-fn pass_at(g: &[i64; 27], level: u32, pass: &mut [i64; 8])
-    requires { ⌜ OfPoints (now g) × (level ≤ base .depth) × Held (8 ^ level) (now pass) ⌝ }
+fn pass_at(g: &[i64; 27], level: u32, pass: &mut [i64; PASS_WORDS])
+    requires { ⌜ Small largest (now g) level × (level ≤ deepest) × Held passWords (8 ^ level) (now pass) ⌝ }
     ensures { λ _. ⌜ ((p : Pass) → now (pass .entry) ≡ passWords p → now (pass .exit) ≡ passWords (visited level (wholeOf (now (g .entry))) (fresh (p .count)))) ⌝ }
 {
     note(0, 0, 0, 0, 0, 0, pass);
@@ -187,34 +190,40 @@ fn pass_at(g: &[i64; 27], level: u32, pass: &mut [i64; 8])
 }
 
 // Whether a pass found a low coefficient and no low corner.
-fn blocked(pass: &[i64; 8]) -> bool
+fn blocked(pass: &[i64; PASS_WORDS]) -> bool
     ensures { λ b. ⌜ ((p : Pass) → now (pass .entry) ≡ passWords p → b ≡ isBlocked (p .found)) ⌝ }
 {
     let kind = pass[0];
     kind == 2
 }
 
-// What the last pass, that of a level, comes to.
-fn settle(level: u32, pass: &mut [i64; 8])
-    ensures { λ _. ⌜ ((p : Pass) → now (pass .entry) ≡ passWords p → now (pass .exit) ≡ verdictWords (outcome level (p .found)) (p .count)) ⌝ }
+// The record that the last pass, that of a level, comes to.
+fn settled(level: u32, pass: &[i64; PASS_WORDS]) -> [i64; RECORD_WORDS]
+    ensures { λ w. ⌜ ((p : Pass) → now (pass .entry) ≡ passWords p → w ≡ verdictWords (outcome level (p .found)) (p .count)) ⌝ }
 {
-    pass[1] = level as i64;
+    let kind = pass[0];
+    let a = pass[1];
+    let b = pass[2];
+    let c = pass[3];
+    let number = pass[4];
+    let value = pass[5];
+    let count = pass[6];
+    [kind, level as i64, a, b, c, number, value, count]
 }
 
 // The record of the eight points with these coefficients: a pass of level 0, 1, .. while only low coefficients are found.
-pub fn record(g: &[i64; 27], depth: u32) -> [i64; 8]
-    requires { ⌜ OfPoints (now g) × (depth ≤ base .depth) ⌝ }
+pub fn record(g: &[i64; 27], depth: u32) -> [i64; RECORD_WORDS]
+    requires { ⌜ Small largest (now g) depth × (depth ≤ deepest) ⌝ }
     ensures { λ w. ⌜ ((xs : List ℤ) → now (g .entry) ≡ coefficients xs → w ≡ recordOf xs depth) ⌝ }
 {
     let mut m: u32 = 0;
-    let mut r = [0i64; 8];
+    let mut r = [0i64; PASS_WORDS];
     pass_at(g, 0, &mut r);
     while (m < depth) & blocked(&r) {
         m += 1;
         pass_at(g, m, &mut r);
     }
-    settle(m, &mut r);
-    r
+    settled(m, &r)
 }
 
 // The least coefficient and the least corner of the cells seen so far.
@@ -260,7 +269,7 @@ fn with_cell(g: &[i64; 27], r: Extremes) -> Extremes
 
 // The cells `left` levels below this one, after those seen before.
 fn survey(g: &[i64; 27], left: u32, r: Extremes) -> Extremes
-    requires { ⌜ Small (now g) left ⌝ }
+    requires { ⌜ Small largest (now g) left ⌝ }
     ensures { λ e. ⌜ ((s : Cell) → s .control ≡ now (g .entry) → extremesOf e ≡ extremesBelow left s (extremesOf r)) ⌝ }
 {
     if left == 0 {
@@ -281,8 +290,8 @@ fn survey(g: &[i64; 27], left: u32, r: Extremes) -> Extremes
 
 // Both bounds of the eight points with these coefficients, from the greatest number, which no coefficient passes.
 pub fn bounds(g: &[i64; 27], depth: u32) -> Extremes
-    requires { ⌜ OfPoints (now g) × (depth ≤ base .depth) ⌝ }
-    ensures { λ r. ⌜ ((xs : List ℤ) → now (g .entry) ≡ coefficients xs → ((i : ℕ) → natAbs (getD xs i (pos 0)) ≤ base .range) → extremesOf r ≡ boundsAt xs depth) ⌝ }
+    requires { ⌜ Small largest (now g) depth ⌝ }
+    ensures { λ r. ⌜ ((xs : List ℤ) → now (g .entry) ≡ coefficients xs → extremesOf r ≡ boundsAt xs depth) ⌝ }
 {
     survey(
         g,

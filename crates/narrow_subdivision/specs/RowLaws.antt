@@ -1,7 +1,7 @@
 -- Where the coefficients stand in the rows; a coefficient of a half by its row; and a half put together row by row.
 use mathlib.Core.Path.{_≡_, refl, sym, _∙_, ap, subst}
 use mathlib.Core.List.{List, [], _∷_, map}
-use Prim.Native.Nat.{ℕ, zero, suc, _+_, _*_, _-_, _/_, _%_, _^_, _<_}
+use Prim.Native.Nat.{ℕ, zero, suc, _+_, _*_, _-_, _/_, _%_, _^_, _<_, _≤_}
 use native.Mathlib.Decide.{ℕ-discrete}
 use native.Mathlib.Omega.{arith}
 use lib.Dec.{T, eqb}
@@ -14,8 +14,9 @@ use Rattle.foundation.specs.Words.{args}
 use Rattle.definitions.specs.Coefficients.{numbering, numbered, place, at}
 use Rattle.definitions.specs.Subdivision.{lower, upper, cutRow, cut, halve}
 use Rattle.expansion_theory.specs.Cut.{length-halve}
-use Rattle.narrow_subdivision.specs.Control.{Control}
-use Rattle.narrow_subdivision.specs.Rows.{inRow, inLine, taken, takenRow, putRow, rowAt, Agrees, Holds, Row}
+use Rattle.expansion_theory.specs.Control.{Control, Cuttable, within-more}
+use Rattle.narrow_subdivision.specs.Rows.{inRow, inLine, taken, takenRow, putRow, lineAt, Agrees, Holds, Row}
+use Rattle.narrow_subdivision.specs.Word.{largest, cutLargest}
 
 -- ---- two functions of numbers compared by computing, at the 27 coefficients of every direction
 everywhere : (f g : ℕ → ℕ → ℕ) → T (allBelow 81 (λ k. eqb (f (k / 27) (k % 27)) (g (k / 27) (k % 27)))) → (d x : ℕ) → d < 3 → x < 27 → f d x ≡ g d x
@@ -141,17 +142,21 @@ module _ (d : ℕ) (half : List ℤ) (ld : d < 3) where
 
 -- ---- a half from its nine rows
 -- what the code puts is what is taken from the half
-row-taken : (d h j : ℕ) {x y z : ℕ} (c xs : List ℤ) → Row d j x y z → putRow h (rowAt c x y z) x y z xs ≡ takenRow d (halve d h c) j xs
+row-taken : (d h j : ℕ) {x y z : ℕ} (c xs : List ℤ) → Row d j x y z → putRow h (lineAt c x y z) x y z xs ≡ takenRow d (halve d h c) j xs
 unfolding putRow
-row-taken d h j c xs r = (λ i. putRow h (rowAt c (r .start i) (r .middle i) (r .end i)) (r .start i) (r .middle i) (r .end i) xs)
+row-taken d h j c xs r = (λ i. putRow h (lineAt c (r .start i) (r .middle i) (r .end i)) (r .start i) (r .middle i) (r .end i) xs)
     ∙ (λ i. set (set (set xs (inLine d (3 * j)) (entry-is d h c j 0 (3 * j) (r .direction) (r .number) (omega arith) (omega arith) i)) (inLine d (3 * j + 1)) (entry-is d h c j 1 (3 * j + 1) (r .direction) (r .number) (omega arith) refl i)) (inLine d (3 * j + 2)) (entry-is d h c j 2 (3 * j + 2) (r .direction) (r .number) (omega arith) refl i))
 
 -- before the first row
-pub none-held : (d h : ℕ) {c xs : List ℤ} → Control (2 ^ 61 - 1) c → length xs ≡ 27 → Holds d h 0 c xs
+-- what can be cut
+pub cut-within : (c : List ℤ) → Cuttable largest c → Control cutLargest c
+cut-within c w = let l : w .bound ≤ cutLargest = omega (arith, w .room) in record { sized = w .control .sized; within = within-more (w .bound) cutLargest c l (w .control .within) }
+
+pub none-held : (d h : ℕ) {c xs : List ℤ} → Control cutLargest c → length xs ≡ 27 → Holds d h 0 c xs
 none-held d h p s = record { control = p; sized = s; agrees = λ x k. absurd (omega arith) }
 
 -- one row more
-pub row-held : {d h j x y z : ℕ} {c xs ys : List ℤ} → Row d j x y z → Holds d h j c xs → ys ≡ putRow h (rowAt c x y z) x y z xs → Holds d h (j + 1) c ys
+pub row-held : {d h j x y z : ℕ} {c xs ys : List ℤ} → Row d j x y z → Holds d h j c xs → ys ≡ putRow h (lineAt c x y z) x y z xs → Holds d h (j + 1) c ys
 row-held {d} {h} {j} {c = c} {xs} r p e = let (s, a) = agrees-row d (halve d h c) (r .direction) j xs (e ∙ row-taken d h j c xs r) (r .number) (p .sized) (p .agrees) in record { control = p .control; sized = s; agrees = a }
 
 -- after the last row: the direction d is n

@@ -7,14 +7,13 @@ use lib.IntN.{ℤ, pos}
 use Rattle.foundation.specs.Polynomial.{integers}
 use Rattle.foundation.specs.Words.{args}
 use Rattle.definitions.specs.Coefficients.{numbers}
-use Rattle.definitions.specs.Subdivision.{cutRow, halve}
-use Rattle.narrow_subdivision.specs.Control.{Control}
+use Rattle.definitions.specs.Subdivision.{rowAt, cutRow, halve}
+use Rattle.expansion_theory.specs.Control.{Control}
+use Rattle.narrow_subdivision.specs.Word.{cutLargest}
 
 -- the coefficient at t, 0 to 2, of the row in direction d whose places in the other two directions are u and v
 abbrev pub inRow : ℕ → ℕ → ℕ → ℕ → ℕ
-inRow zero u v t = getD numbers (9 * t + 3 * u + v) 0
-inRow (suc zero) u v t = getD numbers (9 * u + 3 * t + v) 0
-inRow (suc (suc d)) u v t = getD numbers (9 * u + 3 * v + t) 0
+inRow d u v t = rowAt d (λ i j k. getD numbers (9 * i + 3 * j + k) 0) u v t
 
 -- the rows of direction d one after the other: the coefficient that stands at x, 0 to 26
 abbrev pub inLine : ℕ → ℕ → ℕ
@@ -34,8 +33,8 @@ unfoldable pub putRow : ℕ → List ℤ → ℕ → ℕ → ℕ → List ℤ �
 putRow h row x y z xs = set (set (set xs x (cutRow integers h (args row) 0)) y (cutRow integers h (args row) 1)) z (cutRow integers h (args row) 2)
 
 -- the coefficients of c at x, y, z
-abbrev pub rowAt : List ℤ → ℕ → ℕ → ℕ → List ℤ
-rowAt c x y z = getD c x (pos 0) ∷ getD c y (pos 0) ∷ getD c z (pos 0) ∷ []
+abbrev pub lineAt : List ℤ → ℕ → ℕ → ℕ → List ℤ
+lineAt c x y z = getD c x (pos 0) ∷ getD c y (pos 0) ∷ getD c z (pos 0) ∷ []
 
 -- ---- a half put together, row by row
 -- xs agrees with half at the first n places of the rows
@@ -44,7 +43,7 @@ Agrees d half n xs = (x : ℕ) → x < n → getD xs (inLine d x) (pos 0) ≡ ge
 
 -- xs holds the first j rows of the half of c on side h in direction d; and c is small enough to be cut
 pub record Holds (d h j : ℕ) (c xs : List ℤ) : Type 0 where
-  pub control : Control (2 ^ 61 - 1) c
+  pub control : Control cutLargest c
   pub sized : length xs ≡ 27
   pub agrees : Agrees d (halve d h c) (3 * j) xs
 

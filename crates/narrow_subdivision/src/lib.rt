@@ -3,17 +3,18 @@
 // larger, into lent space.
 ghost use mathlib.Core.Path.{_≡_};
 ghost use mathlib.Core.List.{[], _∷_};
-ghost use Prim.Native.Nat.{_+_, _-_, _^_, _<_};
+ghost use Prim.Native.Nat.{_+_, _<_};
 ghost use lib.ListN.{length};
 ghost use Rattle.foundation.specs.Polynomial.{integers};
 ghost use Rattle.foundation.specs.Words.{args, Within};
 ghost use Rattle.definitions.specs.Subdivision.{cutRow, halve};
+ghost use Rattle.expansion_theory.specs.Control.{Cuttable};
+ghost use Rattle.narrow_subdivision.specs.Word.{largest, cutLargest};
 ghost use Rattle.narrow_subdivision.specs.Rows.{putRow, Row, Holds};
-ghost use Rattle.narrow_subdivision.specs.Control.{Control};
 
 // The half on side h of the row p, q, r, four times larger: its entry i.
 fn blend(p: i64, q: i64, r: i64, h: u32, i: usize) -> i64
-    requires { ⌜ Within (2 ^ 61 - 1) (p ∷ q ∷ r ∷ []) ⌝ }
+    requires { ⌜ Within cutLargest (p ∷ q ∷ r ∷ []) ⌝ }
     ensures { λ v. ⌜ v ≡ cutRow integers h (args (p ∷ q ∷ r ∷ [])) i ⌝ }
 {
     if h == 0 {
@@ -36,7 +37,7 @@ fn blend(p: i64, q: i64, r: i64, h: u32, i: usize) -> i64
 
 // The half on side h of the row p, q, r, into out at x, y, z.
 fn put_row(p: i64, q: i64, r: i64, h: u32, x: usize, y: usize, z: usize, out: &mut [i64])
-    requires { ⌜ Within (2 ^ 61 - 1) (p ∷ q ∷ r ∷ []) ⌝ }
+    requires { ⌜ Within cutLargest (p ∷ q ∷ r ∷ []) ⌝ }
     requires { ⌜ (x < length (now out)) × (y < length (now out)) × (z < length (now out)) ⌝ }
     ensures { λ _. ⌜ now (out .exit) ≡ putRow h (p ∷ q ∷ r ∷ []) x y z (now (out .entry)) ⌝ }
 {
@@ -120,7 +121,7 @@ fn halve_zeta(h: u32, c: &[i64; 27], out: &mut [i64; 27])
 
 // The half of c on side h, 0 or else 1, in direction d, four times larger, into out.
 pub fn halve(d: u32, h: u32, c: &[i64; 27], out: &mut [i64; 27])
-    requires { ⌜ Control (2 ^ 61 - 1) (now c) × (d < 3) ⌝ }
+    requires { ⌜ Cuttable largest (now c) × (d < 3) ⌝ }
     requires { ⌜ length (now out) ≡ 27 ⌝ }
     ensures { λ _. ⌜ now (out .exit) ≡ halve d h (now (c .entry)) ⌝ }
 {

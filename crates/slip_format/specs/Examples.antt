@@ -9,7 +9,7 @@ use Rattle.definitions.specs.Limits.{base}
 use Rattle.definitions.specs.Jacobian.{jacobian, scaledJacobian}
 use Rattle.definitions.specs.Coefficients.{numbered, at, coefficients}
 use Rattle.definitions.specs.Subdivision.{halve, child, children, whole}
-use Rattle.definitions.specs.Verdict.{cornersOf, coefficientsOf, lowPoint, lowCoefficient, lastLevel, validLevel, verdict, openedBelow, opened}
+use Rattle.definitions.specs.Verdict.{cornersOf, coefficientsOf, lowPoint, lowCoefficient, lastLevel, validLevel, verdict, openedBelow, openedCells, opened}
 use Rattle.definitions.specs.Record.{recordOf}
 use Rattle.definitions.specs.Mesh.{refusal, missingIndex, namedTwice, pointsOf, outOfRange, faultOf, elementRecord, records, report, inspection, stampOf}
 use Rattle.definitions.specs.Examples.{unitCube, inOrder, threeOfOne, twoElements}
@@ -80,11 +80,11 @@ Printed (file bytes text) = slipOf base lotFile 3 bytes ≡ text
 
 -- the first two lots have no undecided element, so that their slips at depth 0 are those at depth 3
 cube-printed : Printed (file (written cube) cubeSlip)
-unfolding jacobian scaledJacobian numbered at coefficients halve child children whole cornersOf coefficientsOf lowPoint lowCoefficient lastLevel validLevel verdict openedBelow opened recordOf missingIndex namedTwice pointsOf outOfRange faultOf elementRecord refusal records report inspection stampOf signed markOf written bodyOf knownOf entryOf readFrom readLot digits decimal lotSlip slipOf
+unfolding jacobian scaledJacobian numbered at coefficients halve child children whole cornersOf coefficientsOf lowPoint lowCoefficient lastLevel validLevel verdict openedBelow openedCells opened recordOf missingIndex namedTwice pointsOf outOfRange faultOf elementRecord refusal records report inspection stampOf signed markOf written bodyOf knownOf entryOf readFrom readLot digits decimal lotSlip slipOf
 cube-printed = same-slip base 0 3 (omega arith) (omega arith) cube (λ e. absurd (omega (arith, ap natAbs e)), tt) lotFile (written cube) refl ∙ refl
 
 nameless-printed : Printed (file (written nameless) namelessSlip)
-unfolding jacobian scaledJacobian numbered at coefficients halve child children whole cornersOf coefficientsOf lowPoint lowCoefficient lastLevel validLevel verdict openedBelow opened recordOf missingIndex namedTwice pointsOf outOfRange faultOf elementRecord refusal records report inspection stampOf signed markOf written bodyOf knownOf entryOf readFrom readLot digits decimal lotSlip slipOf
+unfolding jacobian scaledJacobian numbered at coefficients halve child children whole cornersOf coefficientsOf lowPoint lowCoefficient lastLevel validLevel verdict openedBelow openedCells opened recordOf missingIndex namedTwice pointsOf outOfRange faultOf elementRecord refusal records report inspection stampOf signed markOf written bodyOf knownOf entryOf readFrom readLot digits decimal lotSlip slipOf
 nameless-printed = same-slip base 0 3 (omega arith) (omega arith) nameless (λ e. absurd (omega (arith, ap natAbs e)), (λ e. absurd (omega (arith, ap natAbs e)), (λ e. absurd (omega (arith, ap natAbs e)), tt))) lotFile (written nameless) refl ∙ refl
 
 bare-printed : Printed (file (written bare) bareSlip)

@@ -5,17 +5,17 @@ use Prim.Native.Nat.{ℕ, _≤_}
 use lib.IntN.{pos}
 use Rattle.foundation.specs.Lists.{All, all-map}
 use Rattle.definitions.specs.Limits.{base}
+use Rattle.definitions.specs.Record.{kindWord}
 use Rattle.definitions.specs.Mesh.{elementRecord}
 use Rattle.definitions.specs.Examples.{Example, Holds, starred, starred-hold}
-use Rattle.verdict_theory.specs.DepthMonotone.{first}
 use Rattle.verdict_theory.specs.Elements.{element-same}
 
 abbrev pub Reaches : Example → ℕ → Type 0
-Reaches e D = (e .depth ≡ D) ⊎ ((e .depth ≤ D) × ((first (e .answer) ≡ pos 2) → ⊥))
+Reaches e D = (e .depth ≡ D) ⊎ ((e .depth ≤ D) × ((kindWord (e .answer) ≡ pos 2) → ⊥))
 
 pub starred-at-depth : All (λ e. (D : ℕ) → Reaches e D → elementRecord base (e .nodes) (e .indices) D ≡ e .answer) starred
 starred-at-depth = all-map Holds (λ e. (D : ℕ) → Reaches e D → elementRecord base (e .nodes) (e .indices) D ≡ e .answer) reach starred starred-hold
   where
     reach : (e : Example) → Holds e → (D : ℕ) → Reaches e D → elementRecord base (e .nodes) (e .indices) D ≡ e .answer
     reach e h D (inl q) = subst (λ (d : ℕ). elementRecord base (e .nodes) (e .indices) d ≡ e .answer) q (h .0)
-    reach e h D (inr q) = element-same base (e .nodes) (e .indices) (e .depth) D (q .0) (λ p. q .1 (sym (ap first (h .0)) ∙ p)) ∙ h .0
+    reach e h D (inr q) = element-same base (e .nodes) (e .indices) (e .depth) D (q .0) (λ p. q .1 (sym (ap kindWord (h .0)) ∙ p)) ∙ h .0

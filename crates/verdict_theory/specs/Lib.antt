@@ -1,11 +1,13 @@
 pub mod Findings
 pub mod Levels
 pub mod Positive
+pub mod Count
 pub mod Stable
 pub mod Points
 pub mod Bounds
 pub mod Meaning
 pub mod Opened
+pub mod Kinds
 pub mod DepthMonotone
 pub mod Elements
 pub mod Examples

@@ -9,7 +9,8 @@ use lib.ListN.{length, length-append}
 use lib.IntN.{ℤ}
 use Rattle.foundation.specs.Lists.{concatMap, up}
 use Rattle.definitions.specs.Subdivision.{Cell, children, whole, descend}
-use Rattle.definitions.specs.Verdict.{found, firstLow, cornersOf, blocked, openedBelow, openedAt, upTo, countAt, countTo, lastLevel, opened}
+use Rattle.definitions.specs.Verdict.{found, firstLow, cornersOf, blocked, openedBelow, openedAt, lastLevel, opened}
+use Rattle.verdict_theory.specs.Count.{upTo, countAt, countTo, opened-count}
 use Rattle.verdict_theory.specs.Levels.{level-le}
 use Rattle.verdict_theory.specs.Stable.{hasPoint}
 
@@ -54,5 +55,5 @@ module _ (xs : List ℤ) where
   most-up m D h = up (λ k. most m ≤ most k) (λ k q. omega arith) m D h (omega arith)
 
   pub opened-most : (D : ℕ) → opened xs D ≤ most D
-  unfolding opened lastLevel
-  opened-most D = le-trans (counts-most (lastLevel xs D)) (most-up (lastLevel xs D) D (level-le (hasPoint xs) D))
+  unfolding lastLevel
+  opened-most D = subst (λ (n : ℕ). n ≤ most D) (sym (opened-count xs D)) (le-trans (counts-most (lastLevel xs D)) (most-up (lastLevel xs D) D (level-le (hasPoint xs) D)))

@@ -8,8 +8,9 @@ use native.Mathlib.Omega.{arith}
 use native.Mathlib.Decide.{ℕ-discrete}
 use lib.IntN.{ℤ}
 use Rattle.definitions.specs.Subdivision.{whole}
-use Rattle.definitions.specs.Verdict.{Finding, found, lowPoint, lowCoefficient, lastLevel, validLevel, Verdict, valid, invalid, undecided, verdict, countAt, countTo, opened}
+use Rattle.definitions.specs.Verdict.{Finding, found, lowPoint, lowCoefficient, lastLevel, validLevel, Verdict, valid, invalid, undecided, verdict}
 use Rattle.definitions.specs.Record.{verdictWords, recordOf}
+use Rattle.verdict_theory.specs.Count.{countAt, countTo, opened-at}
 use Rattle.verdict_theory.specs.Findings.{some-not-none}
 use Rattle.verdict_theory.specs.Levels.{level-unique}
 use Rattle.verdict_theory.specs.Positive.{clear-positive}
@@ -65,8 +66,8 @@ module _ (xs : List ℤ) where
     upto p k h = elim (ℕ-discrete k m) [ yes q ↦ ap (lowPoint xs) q ∙ p | no q ↦ before .points k (omega arith) ]
 
     pub pass-point : (f : Finding) → o ≡ point f → (D : ℕ) → m ≤ D → verdictWords (invalid m f) c ≡ recordOf xs D
-    unfolding recordOf opened lastLevel
-    pass-point f q D h = ap₂ verdictWords (ap (λ (l : ℕ). invalid l f) (sym last) ∙ sym (invalid-verdict xs D f (record { point = ap (lowPoint xs) last ∙ p }))) (count-is ∙ ap (countTo xs) (sym last))
+    unfolding recordOf lastLevel
+    pass-point f q D h = ap₂ verdictWords (ap (λ (l : ℕ). invalid l f) (sym last) ∙ sym (invalid-verdict xs D f (record { point = ap (lowPoint xs) last ∙ p }))) (count-is ∙ sym (opened-at xs D m last))
       where
         p : lowPoint xs m ≡ some f
         p = finds-point (lowPoint xs m) (lowCoefficient xs m) f (found-is ∙ q)
@@ -75,8 +76,8 @@ module _ (xs : List ℤ) where
         last = level-unique (hasPoint xs) D m h (ap found p) (λ k l. ap found (before .points k l))
 
     pub pass-nothing : o ≡ nothing → (D : ℕ) → m ≤ D → verdictWords (valid m) c ≡ recordOf xs D
-    unfolding recordOf opened validLevel
-    pass-nothing q D h = ap₂ verdictWords (ap valid (sym level) ∙ sym (valid-verdict xs m v)) (count-is ∙ ap (countTo xs) (sym (last-none xs m (v .noPoint)))) ∙ sym (valid-same xs m D h v)
+    unfolding recordOf validLevel
+    pass-nothing q D h = ap₂ verdictWords (ap valid (sym level) ∙ sym (valid-verdict xs m v)) (count-is ∙ sym (opened-at xs m m (last-none xs m (v .noPoint)))) ∙ sym (valid-same xs m D h v)
       where
         p : (lowPoint xs m ≡ none) × (lowCoefficient xs m ≡ none)
         p = finds-nothing (lowPoint xs m) (lowCoefficient xs m) (found-is ∙ q)
@@ -88,8 +89,8 @@ module _ (xs : List ℤ) where
         level = level-unique (isClear xs) m m (omega arith) (ap (λ (k : Option Finding). not (found k)) (p .1)) (before .blocked)
 
     pub pass-last : (f : Finding) → o ≡ coefficient f → verdictWords (undecided m f) c ≡ recordOf xs m
-    unfolding recordOf opened
-    pass-last f q = ap₂ verdictWords (sym (undecided-verdict xs m f (record { noPoint = upto (p .0); coefficient = p .1 }))) (count-is ∙ ap (countTo xs) (sym (last-none xs m (upto (p .0)))))
+    unfolding recordOf
+    pass-last f q = ap₂ verdictWords (sym (undecided-verdict xs m f (record { noPoint = upto (p .0); coefficient = p .1 }))) (count-is ∙ sym (opened-at xs m m (last-none xs m (upto (p .0)))))
       where
         p : (lowPoint xs m ≡ none) × (lowCoefficient xs m ≡ some f)
         p = finds-coefficient (lowPoint xs m) (lowCoefficient xs m) f (found-is ∙ q)

@@ -11,10 +11,11 @@ use lib.IntN.{ℤ, pos}
 use Rattle.foundation.specs.Lists.{All, all-map, concatMap, tabulate, tabulate-cong, all-tabulate}
 use Rattle.definitions.specs.Jacobian.{side, scaledJacobian}
 use Rattle.definitions.specs.Subdivision.{Cell, child, children, whole, descend, cells}
-use Rattle.definitions.specs.Verdict.{Finding, cornersOf, coefficientsOf, firstLow, found, lowPoint, lowCoefficient, lastLevel, validLevel, Verdict, valid, invalid, undecided, verdict, blocked, openedBelow, openedAt, upTo, countAt, countTo, opened}
+use Rattle.definitions.specs.Verdict.{Finding, cornersOf, coefficientsOf, firstLow, found, lowPoint, lowCoefficient, lastLevel, validLevel, Verdict, valid, invalid, undecided, verdict, blocked, openedBelow, openedAt, opened}
 use Rattle.definitions.specs.Record.{verdictWords, recordOf}
 use Rattle.expansion_theory.specs.Cells.{CellOf, all-cells, corner-is}
 use Rattle.expansion_theory.specs.Hull.{above-getD}
+use Rattle.verdict_theory.specs.Count.{upTo, countAt, countTo}
 use Rattle.verdict_theory.specs.Findings.{orElse, orElse-none, orElse-assoc, AboveZero, low-append, none-low, low-none, firstOf, some-not-none}
 use Rattle.verdict_theory.specs.Levels.{level-unique}
 use Rattle.verdict_theory.specs.Positive.{PositiveCell, positive-findings, findings-positive, clear-positive, positive-clear}

@@ -10,8 +10,9 @@ use native.Mathlib.Decide.{decLe}
 use lib.IntN.{ℤ, pos, natAbs}
 use Rattle.foundation.specs.Lists.{All, all-map, all-concat, concat-all, concatMap, up}
 use Rattle.definitions.specs.Subdivision.{Cell, children, whole, descend, cells}
-use Rattle.definitions.specs.Verdict.{Finding, firstLow, found, coefficientsOf, lowPoint, lowCoefficient, leastLevel, lastLevel, validLevel, Verdict, valid, invalid, undecided, decide, verdict, blocked, openedBelow, openedAt, countAt, countTo, opened, cornersOf, upTo}
+use Rattle.definitions.specs.Verdict.{Finding, firstLow, found, coefficientsOf, lowPoint, lowCoefficient, leastLevel, lastLevel, validLevel, Verdict, valid, invalid, undecided, decide, verdict, blocked, openedBelow, openedAt, opened, cornersOf}
 use Rattle.definitions.specs.Record.{kind, verdictWords, recordOf}
+use Rattle.verdict_theory.specs.Count.{upTo, countTo, opened-count, opened-at}
 use Rattle.verdict_theory.specs.Findings.{none-low}
 use Rattle.verdict_theory.specs.Levels.{level-le, level-none, level-holds, level-up}
 use Rattle.verdict_theory.specs.Positive.{PositiveCell, positive-findings, PositiveLevel, level-next, clear-positive, positive-clear, positive-points}
@@ -130,13 +131,12 @@ module _ (xs : List ℤ) where
   level-same D D′ l h = level-up isClear D D′ l (level-holds isClear D D (omega arith) (ap (λ (o : Option Finding). not (found o)) (positive-clear xs D (h .positive))))
 
   pub opened-same : (D D′ : ℕ) → D ≤ D′ → Valid D → opened xs D′ ≡ opened xs D
-  unfolding opened
-  opened-same D D′ l h = ap (countTo xs) (last-none D′ (valid-up D D′ l h .noPoint)) ∙ count-same D D′ l (h .positive) ∙ sym (ap (countTo xs) (last-none D (h .noPoint)))
+  opened-same D D′ l h = opened-at xs D′ D′ (last-none D′ (valid-up D D′ l h .noPoint)) ∙ count-same D D′ l (h .positive) ∙ sym (opened-at xs D D (last-none D (h .noPoint)))
 
   pub invalid-same : (D D′ : ℕ) → D ≤ D′ → (f : Finding) → Invalid D f → recordOf xs D′ ≡ recordOf xs D
-  unfolding recordOf opened
+  unfolding recordOf
   invalid-same D D′ l f h = let e = last-up D D′ l f h in
-      ap₂ verdictWords (invalid-verdict D′ f (invalid-up D D′ l f h) ∙ ap (λ (m : ℕ). invalid m f) e ∙ sym (invalid-verdict D f h)) (ap (countTo xs) e)
+      ap₂ verdictWords (invalid-verdict D′ f (invalid-up D D′ l f h) ∙ ap (λ (m : ℕ). invalid m f) e ∙ sym (invalid-verdict D f h)) (opened-at xs D′ (lastLevel xs D) e ∙ sym (opened-count xs D))
 
   pub valid-same : (D D′ : ℕ) → D ≤ D′ → Valid D → recordOf xs D′ ≡ recordOf xs D
   unfolding recordOf

@@ -11,9 +11,12 @@ use Rattle.definitions.specs.Subdivision.{halve, Cell, child}
 use Rattle.expansion_theory.specs.Cut.{length-halve}
 use Rattle.verdict_theory.specs.Clear.{quarterOf, childControl}
 use Rattle.verdict_theory.specs.Extremes.{extremes}
-use Rattle.narrow_subdivision.specs.Control.{Control}
-use Rattle.narrow_search.specs.Children.{Ready, ready-first, run-none, child-made, cut-control, cut-half, cut-quarter, cut-small, child-small}
-use Rattle.narrow_search.specs.Bounds.{extremesOf, with-last, extremesOver, extremes-next, extremes-last, child-of}
+use Rattle.expansion_theory.specs.Control.{Cuttable}
+use Rattle.search_theory.specs.Children.{Ready, ready-first, run-none, child-made, cut-whole, cut-half, cut-quarter, cut-small, child-small}
+use Rattle.search_theory.specs.Bounds.{with-last, extremesOver, extremes-next, extremes-last, child-of}
+use Rattle.narrow_search.specs.Meaning.{extremesOf}
+use Rattle.search_theory.specs.Meaning.{Small}
+use Rattle.narrow_subdivision.specs.Word.{largest}
 use borrow.Fn.Kinds.{In}
 use borrow.Fn.PlainCycle.{Measures, is, falls, and}
 use Rattle.narrow_search.proofs.survey.Reads as survey
@@ -56,8 +59,8 @@ survey-loop-holds : (t : ℕ) → survey-lts.Need-loop-holds (known t) (survey-a
 survey-loop-holds t c = (zero-le, λ h. ready-first (now (c .before .args .g)) _ _ refl refl, refl, λ s h. refl)
 
 -- the cell is cut
-small-at : (t : ℕ) (c : survey-lts.Else1 (known t) (survey-at t) survey.Post survey-Inv-loop survey-μ-loop) → Control (2 ^ 57 - 1) (now (c .before .args .g))
-small-at t c = cut-small (now (c .before .args .g)) (c .before .args .left) (c .before .pre .1) (c .if1 .left)
+small-at : (t : ℕ) (c : survey-lts.Else1 (known t) (survey-at t) survey.Post survey-Inv-loop survey-μ-loop) → Small largest (now (c .before .args .g)) 1
+small-at t c = cut-small largest (now (c .before .args .g)) (c .before .args .left) (c .before .pre .1) (c .if1 .left)
 
 -- child k's quarter, and child k of it
 quarter-at : (t : ℕ) (c : survey-lts.After-half-at2 (known t) (survey-at t) survey.Post survey-Inv-loop survey-μ-loop) → c .half-at2 .last .1 .1 .1 .1 .0 ≡ quarterOf (now (c .before .before .before .before .before .before .before .before .args .g)) (c .before .before .before .before .before .before .loop .k)
@@ -65,18 +68,18 @@ quarter-at t c = c .half-at2 .ensures ∙ ap (halve 1 (side 1 (c .before .before
 
 survey-half-at-requires : (t : ℕ) → survey-lts.Need-half-at-requires (known t) (survey-at t) survey.Post survey-Inv-loop survey-μ-loop
 survey-half-at-requires t c κs = let s = c .before .before .before .before in let here = c .before .loop-test .taken in let ready = c .before .before .loop .inv .1 here in
-    ((cut-control (now (s .args .g)) (small-at t (c .before .before .before)), omega arith, ready .half-sized), λ e. ready .half-is (eqb-false _ 0 e))
+    ((cut-whole largest (now (s .args .g)) (small-at t (c .before .before .before)), omega arith, ready .half-sized), λ e. ready .half-is (eqb-false _ 0 e))
 
 survey-half-at-requires-2 : (t : ℕ) → survey-lts.Need-half-at-requires-2 (known t) (survey-at t) survey.Post survey-Inv-loop survey-μ-loop
 survey-half-at-requires-2 t c κs = let s = c .before .before .before .before .before .before .before in let k = c .before .before .before .before .before .loop .k in let here = c .before .before .before .before .loop-test .taken in let ready = c .before .before .before .before .before .loop .inv .1 here in let half = c .before .before .half-at .ensures in
-    ((subst (Control (2 ^ 61 - 1)) (sym half) (cut-half (now (s .args .g)) (small-at t (c .before .before .before .before .before .before)) k), omega arith, ready .quarter-sized), λ e. ready .quarter-is (eqb-false _ 0 e) ∙ sym (ap (halve 1 (side 1 k)) half))
+    ((subst (Cuttable largest) (sym half) (cut-half largest (now (s .args .g)) (small-at t (c .before .before .before .before .before .before)) k), omega arith, ready .quarter-sized), λ e. ready .quarter-is (eqb-false _ 0 e) ∙ sym (ap (halve 1 (side 1 k)) half))
 
 survey-side-requires : (t : ℕ) → survey-lts.Need-side-requires (known t) (survey-at t) survey.Post survey-Inv-loop survey-μ-loop
 survey-side-requires t c κs = tt
 
 survey-halve-requires : (t : ℕ) → survey-lts.Need-halve-requires (known t) (survey-at t) survey.Post survey-Inv-loop survey-μ-loop
 survey-halve-requires t c κs = let s = c .before .before .before .before .before .before .before .before .before .before .before in
-    ((subst (Control (2 ^ 61 - 1)) (sym (quarter-at t (c .before .before .before))) (cut-quarter (now (s .args .g)) (small-at t (c .before .before .before .before .before .before .before .before .before .before)) (c .before .before .before .before .before .before .before .before .before .loop .k)), omega arith), c .before .before .before .before .before .before .before .before .before .loop .inv .2)
+    ((subst (Cuttable largest) (sym (quarter-at t (c .before .before .before))) (cut-quarter largest (now (s .args .g)) (small-at t (c .before .before .before .before .before .before .before .before .before .before)) (c .before .before .before .before .before .before .before .before .before .loop .k)), omega arith), c .before .before .before .before .before .before .before .before .before .loop .inv .2)
 
 made-at : (t : ℕ) (c : survey-lts.After-child2 (known t) (survey-at t) survey.Post survey-Inv-loop survey-μ-loop) → c .before .halve .last .1 .1 .1 .0 ≡ childControl (now (c .before .before .before .before .before .before .before .before .before .before .before .before .before .args .g)) (c .before .before .before .before .before .before .before .before .before .before .before .loop .k)
 made-at t c = let quarter = c .before .before .before .before .before .half-at2 .last .1 .1 .1 .1 .0 in
@@ -87,7 +90,7 @@ survey-sub-survey t c = omega (arith, c .before .before .before .before .before 
 
 survey-survey-requires : (t : ℕ) → survey-lts.Need-survey-requires (known t) (survey-at t) survey.Post survey-Inv-loop survey-μ-loop
 survey-survey-requires t c κs = let s = c .before .before .before .before .before .before .before .before .before .before .before .before .before in let some = c .before .before .before .before .before .before .before .before .before .before .before .before .if1 .left in
-    (omega (arith, s .pre .0, some), child-small (now (s .args .g)) (s .args .left) (c .before .before .before .before .before .before .before .before .before .before .before .loop .k) _ (s .pre .1) some (made-at t c))
+    (omega (arith, s .pre .0, some), child-small largest (now (s .args .g)) (s .args .left) (c .before .before .before .before .before .before .before .before .before .before .before .loop .k) _ (s .pre .1) some (made-at t c))
 
 survey-add-k : (t : ℕ) → survey-lts.Need-add-k (known t) (survey-at t) survey.Post survey-Inv-loop survey-μ-loop
 survey-add-k t c = search needs

@@ -9,10 +9,12 @@ use Rattle.definitions.specs.Subdivision.{halve, Cell}
 use Rattle.expansion_theory.specs.Cut.{length-halve}
 use Rattle.verdict_theory.specs.Search.{Pass, visit as visited}
 use Rattle.verdict_theory.specs.Clear.{childControl}
-use Rattle.narrow_subdivision.specs.Control.{Control}
-use Rattle.narrow_search.specs.Meaning.{cellOf, passWords, Room}
-use Rattle.narrow_search.specs.Children.{Ready, Run, ready-first, after-some, child-made, cut-quarter, cut-small, grid-doubled, child-room, child-cell}
-use Rattle.narrow_search.specs.Visit.{visit-ended, visit-none, visit-last, over, over-next, over-clear, over-ended, visit-over, one-held, skip-held, next-held}
+use Rattle.expansion_theory.specs.Control.{Cuttable}
+use Rattle.search_theory.specs.Meaning.{cellOf, Room}
+use Rattle.narrow_search.specs.Meaning.{passWords}
+use Rattle.search_theory.specs.Children.{Ready, Run, ready-first, after-some, child-made, cut-quarter, cut-small, grid-doubled, child-room, child-cell}
+use Rattle.search_theory.specs.Visit.{visit-ended, visit-none, visit-last, over, over-next, over-clear, over-ended, visit-over, one-held, skip-held, next-held}
+use Rattle.narrow_subdivision.specs.Word.{largest}
 use borrow.Fn.Kinds.{In}
 use borrow.Fn.PlainCycle.{Measures, is, falls, and}
 use Rattle.narrow_search.proofs.visit.Reads as visit
@@ -57,7 +59,7 @@ visit-lowest-requires : (t : ℕ) → visit-lts.Need-lowest-requires (known t) (
 visit-lowest-requires t c κs = tt
 
 visit-skip-requires : (t : ℕ) → visit-lts.Need-skip-requires (known t) (visit-at t) visit.Post visit-Inv-loop visit-μ-loop
-visit-skip-requires t c κs = let s = c .before .before .before .before .before .before in one-held (s .args .left) (now (s .args .pass)) (s .pre .1 .1)
+visit-skip-requires t c κs = let s = c .before .before .before .before .before .before in one-held passWords (s .args .left) (now (s .args .pass)) (s .pre .1 .1)
 
 visit-returns-2 : (t : ℕ) → visit-lts.Need-returns-2 (known t) (visit-at t) visit.Post visit-Inv-loop visit-μ-loop
 visit-returns-2 t c p e = let s = c .before .before .before .before .before .before .before in let going = sym (c .before .before .before .before .before .ended .ensures p e) ∙ c .before .before .before .before .if1 .left in
@@ -65,7 +67,7 @@ visit-returns-2 t c p e = let s = c .before .before .before .before .before .bef
 
 visit-open-low-requires : (t : ℕ) → visit-lts.Need-open-low-requires (known t) (visit-at t) visit.Post visit-Inv-loop visit-μ-loop
 visit-open-low-requires t c κs = let s = c .before .before .before .before .before .before .before in let n = c .before .before .before .lowest in let some = c .before .before .if2 .left in
-    ((subst (Room (now (s .args .g)) (s .args .a) (s .args .b) (s .args .c)) (c .before .if3 .taken) (s .pre .1 .0), one-held (s .args .left) (now (s .args .pass)) (s .pre .1 .1)), (n .ensures .0, omega arith, n .ensures .1))
+    ((subst (Room largest (now (s .args .g)) (s .args .a) (s .args .b) (s .args .c)) (c .before .if3 .taken) (s .pre .1 .0), one-held passWords (s .args .left) (now (s .args .pass)) (s .pre .1 .1)), (n .ensures .0, omega arith, n .ensures .1))
 
 visit-returns-3 : (t : ℕ) → visit-lts.Need-returns-3 (known t) (visit-at t) visit.Post visit-Inv-loop visit-μ-loop
 visit-returns-3 t c p e = let s = c .before .before .before .before .before .before .before .before in let going = sym (c .before .before .before .before .before .before .ended .ensures p e) ∙ c .before .before .before .before .before .if1 .left in
@@ -88,7 +90,7 @@ visit-returns-4 t c p e = let s = c .before .before .before .before .before .bef
     seen ∙ ap passWords (over-ended cell p (s .args .left - 1) (l .k) (l .inv .0) (sym (c .before .ended2 .ensures (over cell p (s .args .left - 1) (l .k)) seen) ∙ c .if4 .taken) ∙ cut-at t (c .before .before .before .before .before) p e)
 
 visit-clear-requires : (t : ℕ) → visit-lts.Need-clear-requires (known t) (visit-at t) visit.Post visit-Inv-loop visit-μ-loop
-visit-clear-requires t c κs = let s = c .before .before .before .before .before .before .before .before .before .before .before .before .before in let here = c .before .before .before .before .before .loop-test .taken in (cut-small (now (s .args .g)) (s .args .left) (s .pre .1 .0 .small) (c .before .before .before .before .before .before .before .if3 .left), here, c .before .before .before .before .before .before .loop .inv .1 here)
+visit-clear-requires t c κs = let s = c .before .before .before .before .before .before .before .before .before .before .before .before .before in let here = c .before .before .before .before .before .loop-test .taken in (cut-small largest (now (s .args .g)) (s .args .left) (s .pre .1 .0 .small) (c .before .before .before .before .before .before .before .if3 .left), here, c .before .before .before .before .before .before .loop .inv .1 here)
 
 visit-side-requires : (t : ℕ) → visit-lts.Need-side-requires (known t) (visit-at t) visit.Post visit-Inv-loop visit-μ-loop
 visit-side-requires t c κs = tt
@@ -101,7 +103,7 @@ visit-side-requires-3 t c κs = tt
 
 visit-halve-requires : (t : ℕ) → visit-lts.Need-halve-requires (known t) (visit-at t) visit.Post visit-Inv-loop visit-μ-loop
 visit-halve-requires t c κs = let s = c .before .before .before .before .before .before .before .before .before .before .before .before .before .before .before .before .before .before .before .before in let g = now (s .args .g) in let k = c .before .before .before .before .before .before .before .before .before .before .before .before .before .loop .k in
-    ((subst (Control (2 ^ 61 - 1)) (sym (c .before .before .before .before .before .before .clear .ensures .quarter-is (c .before .before .before .before .before .if5 .taken))) (cut-quarter g (cut-small g (s .args .left) (s .pre .1 .0 .small) (c .before .before .before .before .before .before .before .before .before .before .before .before .before .before .if3 .left)) k), omega arith), c .before .before .before .before .before .before .before .before .before .before .before .before .before .loop .inv .2)
+    ((subst (Cuttable largest) (sym (c .before .before .before .before .before .before .clear .ensures .quarter-is (c .before .before .before .before .before .if5 .taken))) (cut-quarter largest g (cut-small largest g (s .args .left) (s .pre .1 .0 .small) (c .before .before .before .before .before .before .before .before .before .before .before .before .before .before .if3 .left)) k), omega arith), c .before .before .before .before .before .before .before .before .before .before .before .before .before .loop .inv .2)
 
 -- child k is made of its quarter
 made-at : (t : ℕ) (c : visit-lts.After-child2 (known t) (visit-at t) visit.Post visit-Inv-loop visit-μ-loop) → c .before .halve .last .1 .1 .1 .0 ≡ childControl (now (c .before .before .before .before .before .before .before .before .before .before .before .before .before .before .before .before .before .before .before .before .before .before .args .g)) (c .before .before .before .before .before .before .before .before .before .before .before .before .before .before .before .loop .k)
@@ -141,8 +143,8 @@ visit-visit-requires : (t : ℕ) → visit-lts.Need-visit-requires (known t) (vi
 visit-visit-requires t c κs = let s = c .before .before .before .before .before .before .before .before .before .before .before .before .before .before .before .before .before .before .before .before .before .before .before in let left = s .args .left in let l = c .before .before .before .before .before .before .before .before .before .before .before .before .before .before .before .before .loop in let some = c .before .before .before .before .before .before .before .before .before .before .before .before .before .before .before .before .before .if3 .left in let held = s .pre .1 .1 in (
   omega (arith, s .pre .0, some),
   (
-    child-room (now (s .args .g)) (s .args .a) (s .args .b) (s .args .c) (l .k) (c .before .before .before .before .before .before .before .side .result) (c .before .before .before .before .before .before .side2 .result) (c .before .before .before .before .before .side3 .result) _ (made-at t (c .before)) (c .before .before .before .before .before .before .before .side .ensures .0) (c .before .before .before .before .before .before .side2 .ensures .0) (c .before .before .before .before .before .side3 .ensures .0) left (s .pre .1 .0) some,
-    next-held (cellOf (s .args .a) (s .args .b) (s .args .c) (now (s .args .g))) left some (now (s .args .pass)) held (l .k) (c .before .before .before .before .before .before .before .before .before .before .before .before .before .before .before .loop-test .taken) _ (l .inv .3 (held .pass) (held .is)),
+    child-room largest (now (s .args .g)) (s .args .a) (s .args .b) (s .args .c) (l .k) (c .before .before .before .before .before .before .before .side .result) (c .before .before .before .before .before .before .side2 .result) (c .before .before .before .before .before .side3 .result) _ (made-at t (c .before)) (c .before .before .before .before .before .before .before .side .ensures .0) (c .before .before .before .before .before .before .side2 .ensures .0) (c .before .before .before .before .before .side3 .ensures .0) left (s .pre .1 .0) some,
+    next-held passWords (cellOf (s .args .a) (s .args .b) (s .args .c) (now (s .args .g))) left some (now (s .args .pass)) held (l .k) (c .before .before .before .before .before .before .before .before .before .before .before .before .before .before .before .loop-test .taken) _ (l .inv .3 (held .pass) (held .is)),
   ),
 )
 
@@ -161,7 +163,7 @@ visit-loop-again t c = let s = c .before .before .before .before .before .before
       ap length (c .before .before .before .halve .ensures) ∙ length-halve 0 (c .before .before .before .before .before .before .before .before .side .result) quarter,
       λ p e.
           c .visit .ensures (over cell p m k) (l .inv .3 p e)
-          ∙ ap passWords (ap (λ (q : Cell). visited m q (over cell p m k)) (child-cell g (s .args .a) (s .args .b) (s .args .c) k (c .before .before .before .before .before .before .before .before .side .result) (c .before .before .before .before .before .before .before .side2 .result) (c .before .before .before .before .before .before .side3 .result) _ (made-at t (c .before .before)) (c .before .before .before .before .before .before .before .before .side .ensures .0) (c .before .before .before .before .before .before .before .side2 .ensures .0) (c .before .before .before .before .before .before .side3 .ensures .0)) ∙ sym (over-next cell p m k)),
+          ∙ ap passWords (ap (λ (q : Cell). visited m q (over cell p m k)) (child-cell largest g (s .args .a) (s .args .b) (s .args .c) k (c .before .before .before .before .before .before .before .before .side .result) (c .before .before .before .before .before .before .before .side2 .result) (c .before .before .before .before .before .before .side3 .result) _ (made-at t (c .before .before)) (c .before .before .before .before .before .before .before .before .side .ensures .0) (c .before .before .before .before .before .before .before .side2 .ensures .0) (c .before .before .before .before .before .before .side3 .ensures .0)) ∙ sym (over-next cell p m k)),
     )
 
 visit-sub-skip : (t : ℕ) → visit-lts.Need-sub-skip (known t) (visit-at t) visit.Post visit-Inv-loop visit-μ-loop
@@ -169,7 +171,7 @@ visit-sub-skip t c = omega (arith, c .before .before .before .before .before .be
 
 visit-skip-requires-2 : (t : ℕ) → visit-lts.Need-skip-requires-2 (known t) (visit-at t) visit.Post visit-Inv-loop visit-μ-loop
 visit-skip-requires-2 t c κs = let s = c .before .before .before .before .before .before .before .before .before .before .before .before .before .before .before .before in let l = c .before .before .before .before .before .before .before .before .before .loop in let held = s .pre .1 .1 in
-    skip-held (cellOf (s .args .a) (s .args .b) (s .args .c) (now (s .args .g))) (s .args .left) (c .before .before .before .before .before .before .before .before .before .before .if3 .left) (now (s .args .pass)) held (l .k) (c .before .before .clear .result) (c .before .before .clear .ensures .end) _ (l .inv .3 (held .pass) (held .is))
+    skip-held passWords (cellOf (s .args .a) (s .args .b) (s .args .c) (now (s .args .g))) (s .args .left) (c .before .before .before .before .before .before .before .before .before .before .if3 .left) (now (s .args .pass)) held (l .k) (c .before .before .clear .result) (c .before .before .clear .ensures .end) _ (l .inv .3 (held .pass) (held .is))
 
 visit-add-k-2 : (t : ℕ) → visit-lts.Need-add-k-2 (known t) (visit-at t) visit.Post visit-Inv-loop visit-μ-loop
 visit-add-k-2 t c = omega (arith, c .before .before .before .clear .ensures .end)

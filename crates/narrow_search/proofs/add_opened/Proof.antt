@@ -1,6 +1,6 @@
 -- `narrow_search::add_opened` meets its contract: the sum fits, and is read back whole. Assumes nothing.
 use mathlib.Core.Path.{_≡_, sym, _∙_, ap, ap₂, subst}
-use Prim.Native.Nat.{_+_, _<_}
+use Prim.Native.Nat.{_+_, _<_, _^_}
 use native.Mathlib.Omega.{arith}
 use lib.ListN.{getD}
 use lib.IntN.{ℤ, pos, _+ℤ_}
@@ -15,9 +15,9 @@ use Rattle.narrow_search.proofs.add_opened.Statement.{statement}
 use Rattle.narrow_search.proofs.add_opened.Tie as tie
 
 -- what is added
-sum-is : (c : tie.After-count) → toZ w64 (ofZ w64 (getD (now (c .before .args .pass)) 7 (pos 0))) +ℤ toZ w64 (c .before .args .n) ≡ getD (now (c .before .args .pass)) 7 (pos 0) +ℤ pos (c .before .args .n)
-sum-is c = let n : c .before .args .n < 9223372036854775808 = omega arith in
-    ap₂ _+ℤ_ (toZ-ofZ w64 (getD (now (c .before .args .pass)) 7 (pos 0)) (record { sfits = c .count .given })) (toZ-pos w64 (c .before .args .n) n)
+sum-is : (c : tie.After-count) → toZ w64 (ofZ w64 (getD (now (c .before .args .pass)) 6 (pos 0))) +ℤ toZ w64 (c .before .args .n) ≡ getD (now (c .before .args .pass)) 6 (pos 0) +ℤ pos (c .before .args .n)
+sum-is c = let n : c .before .args .n < 2 ^ 63 = omega arith in
+    ap₂ _+ℤ_ (toZ-ofZ w64 (getD (now (c .before .args .pass)) 6 (pos 0)) (record { sfits = c .count .given })) (toZ-pos w64 (c .before .args .n) n)
 
 element-copy-out-count : tie.Need-element-copy-out-count
 element-copy-out-count c = search needs

@@ -1,19 +1,19 @@
 -- `narrow_search::clear` meets its contract: by the lowest number of the half, and of the quarter. Assumes nothing.
 use mathlib.Core.Path.{sym, _∙_, ap, subst}
-use Prim.Native.Nat.{_-_, _^_}
 use native.Mathlib.Omega.{arith}
 use denote.Ref.{now}
 use borrow.Author.Needs.{needs}
 use borrow.Author.Tests.{eqb-false}
 use Rattle.definitions.specs.Jacobian.{side}
 use Rattle.definitions.specs.Subdivision.{halve}
-use Rattle.narrow_subdivision.specs.Control.{Control}
-use Rattle.narrow_search.specs.Children.{half-length, quarter-length, run-four, run-two, run-none, lowest-clear, cut-control, cut-half}
+use Rattle.expansion_theory.specs.Control.{Cuttable}
+use Rattle.search_theory.specs.Children.{half-length, quarter-length, run-four, run-two, run-none, lowest-clear, cut-whole, cut-half}
+use Rattle.narrow_subdivision.specs.Word.{largest}
 use Rattle.narrow_search.proofs.clear.Statement.{statement}
 use Rattle.narrow_search.proofs.clear.Tie as tie
 
 half-at-requires : tie.Need-half-at-requires
-half-at-requires c κs = let s = c .before in let ready = s .pre .2 in ((cut-control (now (s .args .g)) (s .pre .0), omega arith, ready .half-sized), λ e. ready .half-is (eqb-false _ 0 e))
+half-at-requires c κs = let s = c .before in let ready = s .pre .2 in ((cut-whole largest (now (s .args .g)) (s .pre .0), omega arith, ready .half-sized), λ e. ready .half-is (eqb-false _ 0 e))
 
 lowest-requires : tie.Need-lowest-requires
 lowest-requires c κs = search needs
@@ -24,7 +24,7 @@ returns c = let s = c .before .before .before .before .before .before in let g =
 
 half-at-requires-2 : tie.Need-half-at-requires-2
 half-at-requires-2 c κs = let s = c .before .before .before .before .before in let g = now (s .args .g) in let k = s .args .k in let half = c .before .before .before .half-at in let ready = s .pre .2 in
-    ((subst (Control (2 ^ 61 - 1)) (sym (half .ensures)) (cut-half g (s .pre .0) k), omega arith, ready .quarter-sized), λ e. ready .quarter-is (eqb-false _ 0 e) ∙ sym (ap (halve 1 (side 1 k)) (half .ensures)))
+    ((subst (Cuttable largest) (sym (half .ensures)) (cut-half largest g (s .pre .0) k), omega arith, ready .quarter-sized), λ e. ready .quarter-is (eqb-false _ 0 e) ∙ sym (ap (halve 1 (side 1 k)) (half .ensures)))
 
 lowest-requires-2 : tie.Need-lowest-requires-2
 lowest-requires-2 c κs = search needs

@@ -9,7 +9,7 @@ use mir.Syntax.{w64}
 use mir.Val.{toZ}
 use mir.ValLaws.{toZ-ofZ}
 use Rattle.foundation.specs.Least.{lesser, leastFrom}
-use Rattle.narrow_search.specs.Bounds.{least-next}
+use Rattle.search_theory.specs.Bounds.{least-next}
 use Rattle.narrow_search.proofs.least.Statement.{statement}
 use Rattle.narrow_search.proofs.least.Tie as tie
 

@@ -9,8 +9,8 @@ use lib.IntN.{ℤ, pos}
 use lib.Signed.{leZ}
 use mir.Syntax.{w64}
 use mir.ValLaws.{toZ-ofZ}
-use Rattle.narrow_search.specs.Meaning.{lowFrom, lowest}
-use Rattle.narrow_search.specs.Lowest.{low-here, low-later}
+use Rattle.search_theory.specs.Meaning.{lowFrom, lowest}
+use Rattle.search_theory.specs.Lowest.{low-here, low-later}
 use Rattle.narrow_search.proofs.lowest.Statement.{statement}
 use Rattle.narrow_search.proofs.lowest.Tie as tie
 

@@ -1,6 +1,6 @@
 -- `narrow_search::note` meets its contract: each word is read back whole. Assumes nothing.
 use mathlib.Core.Path.{_∙_}
-use Prim.Native.Nat.{_<_}
+use Prim.Native.Nat.{_<_, _^_}
 use native.Mathlib.Omega.{arith}
 use lib.ListN.{set}
 use mir.Syntax.{w64}
@@ -48,13 +48,13 @@ returns : tie.Need-returns
 returns c p e =
     let s = c .args in
     let ws = now (s .pass) in
-    let k : s .kind < 9223372036854775808 = omega arith in
-    let a : s .a < 9223372036854775808 = omega arith in
-    let b : s .b < 9223372036854775808 = omega arith in
-    let z : s .c < 9223372036854775808 = omega arith in
-    let n : s .number < 9223372036854775808 = omega arith in
+    let k : s .kind < 2 ^ 63 = omega arith in
+    let a : s .a < 2 ^ 63 = omega arith in
+    let b : s .b < 2 ^ 63 = omega arith in
+    let z : s .c < 2 ^ 63 = omega arith in
+    let n : s .number < 2 ^ 63 = omega arith in
     let value = toZ-ofZ w64 (s .value) (c .fits .value) in
-    (λ i. set (set (set (set (set (set ws 0 (toZ-pos w64 (s .kind) k i)) 2 (toZ-pos w64 (s .a) a i)) 3 (toZ-pos w64 (s .b) b i)) 4 (toZ-pos w64 (s .c) z i)) 5 (toZ-pos w64 (s .number) n i)) 6 (value i))
+    (λ i. set (set (set (set (set (set ws 0 (toZ-pos w64 (s .kind) k i)) 1 (toZ-pos w64 (s .a) a i)) 2 (toZ-pos w64 (s .b) b i)) 3 (toZ-pos w64 (s .c) z i)) 4 (toZ-pos w64 (s .number) n i)) 5 (value i))
     ∙ noted ws p (s .kind) (s .a) (s .b) (s .c) (s .number) (s .value) e
 
 pub note-spec : {M : Type 1} → statement M

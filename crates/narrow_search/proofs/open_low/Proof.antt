@@ -8,10 +8,10 @@ use mir.Syntax.{w64}
 use mir.ValLaws.{toZ-ofZ}
 use denote.Ref.{now}
 use borrow.Author.Needs.{needs}
-use Rattle.definitions.specs.Record.{words}
 use Rattle.verdict_theory.specs.Search.{Found}
-use Rattle.narrow_search.specs.Meaning.{cellOf, passWords, foundWords}
-use Rattle.narrow_search.specs.Lowest.{atCell, withCoefficient, opened-corner, opened-coefficient}
+use Rattle.search_theory.specs.Meaning.{cellOf}
+use Rattle.narrow_search.specs.Meaning.{layout, passWords, foundWords}
+use Rattle.search_theory.specs.Lowest.{atCell, withCoefficient, opened-corner, opened-coefficient}
 use Rattle.narrow_search.proofs.Passes.{nothing-word, stays-word}
 use Rattle.narrow_search.proofs.open_low.Statement.{statement}
 use Rattle.narrow_search.proofs.open_low.Tie as tie
@@ -72,7 +72,7 @@ returns c p e going =
     let number : j + 1 ≡ suc j = omega arith in
     let value = toZ-ofZ w64 (getD g j (pos 0)) (record { sfits = v .value .given }) in
     c .note .ensures (record { count = p .count + 1; found = p .found }) (v .before .add-opened .ensures p e)
-    ∙ (λ i. words 1 0 (s .args .a + first .side .ensures .0 i) (s .args .b + second .side2 .ensures .0 i) (s .args .c + third .side3 .ensures .0 i) (number i) (value i) (p .count + 1))
+    ∙ (λ i. layout 1 (s .args .a + first .side .ensures .0 i) (s .args .b + second .side2 .ensures .0 i) (s .args .c + third .side3 .ensures .0 i) (number i) (value i) (p .count + 1))
     ∙ ap passWords (opened-corner box (p .count) (p .found) going j (sym (s .pre .1 .0) ∙ n) (omega arith))
 
 element-copy-out-kind : tie.Need-element-copy-out-kind
@@ -97,7 +97,7 @@ returns-2 c p e going =
     let opened = v .before .add-opened .ensures p e in
     let none = nothing-word _ (record { count = p .count + 1; found = p .found }) opened (c .before .before .if2 .taken) in
     c .note2 .ensures (record { count = p .count + 1; found = p .found }) opened
-    ∙ (λ i. words 2 0 (s .args .a) (s .args .b) (s .args .c) (number i) (value i) (p .count + 1))
+    ∙ (λ i. layout 2 (s .args .a) (s .args .b) (s .args .c) (number i) (value i) (p .count + 1))
     ∙ ap (λ (o : Found). foundWords (withCoefficient o (atCell box j)) (p .count + 1)) (sym none)
     ∙ ap passWords (opened-coefficient box (p .count) (p .found) going j (sym (s .pre .1 .0) ∙ n) (omega arith))
 

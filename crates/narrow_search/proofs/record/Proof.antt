@@ -1,27 +1,30 @@
 -- `narrow_search::record` meets its contract: between passes the levels before are all blocked; the loop ends at a pass that settles, or at the depth. Assumes nothing.
 use mathlib.Core.Path.{_≡_, refl, sym, ap, _∙_}
 use mathlib.Core.Bool.{Bool, true, false, _&&_, and-true, and-eq-true-iff}
-use Prim.Native.Nat.{_-_, _≤_, _<_, zero-le}
+use Prim.Native.Nat.{_+_, _-_, _≤_, _<_, zero-le}
 use native.Mathlib.Omega.{arith}
 use lib.Dec.{ltb}
 use denote.Ref.{now}
 use borrow.Author.Needs.{needs}
 use borrow.Author.Tests.{ltb-true, ltb-false}
-use Rattle.narrow_search.specs.Levels.{isBlocked, fresh, settled, Made, made-first, made-next, made-room}
+use Rattle.search_theory.specs.Children.{small-less}
+use Rattle.search_theory.specs.Levels.{isBlocked, fresh, settled, Made, made-first, made-next, made-room}
+use Rattle.narrow_subdivision.specs.Word.{largest}
+use Rattle.narrow_search.specs.Meaning.{passWords}
 use Rattle.narrow_search.proofs.record.Statement.{statement}
 use Rattle.narrow_search.proofs.record.Tie as tie
 
 abbrev Inv-loop : tie.InvT-loop
-Inv-loop g depth m₀ r₀ m r = (m ≤ depth) × Made g m r
+Inv-loop g depth m₀ r₀ m r = (m ≤ depth) × Made passWords g m r
 
 abbrev μ-loop : tie.MeasureT-loop
 μ-loop g depth m₀ r₀ m r = depth - m
 
 pass-at-requires : tie.Need-pass-at-requires Inv-loop μ-loop
-pass-at-requires c κs = (c .before .pre .0, zero-le, record { pass = fresh 0; is = refl; room = omega arith })
+pass-at-requires c κs = let s = c .before in (small-less largest (now (s .args .g)) 0 (s .args .depth) zero-le (s .pre .0), zero-le, record { pass = fresh 0; is = refl; room = omega arith })
 
 loop-holds : tie.Need-loop-holds Inv-loop μ-loop
-loop-holds c = let g = now (c .before .before .args .g) in (zero-le, made-first g _ (c .pass-at .ensures (fresh 0) refl))
+loop-holds c = let g = now (c .before .before .args .g) in (zero-le, made-first passWords g _ (c .pass-at .ensures (fresh 0) refl))
 
 blocked-requires : tie.Need-blocked-requires Inv-loop μ-loop
 blocked-requires c κs = tt
@@ -47,21 +50,21 @@ last c b =
 
 pass-at-requires-2 : tie.Need-pass-at-requires-2 Inv-loop μ-loop
 pass-at-requires-2 c κs = let l = c .before .before .before .before in let s = c .before .before .before .before .before .before .before in let go = going (c .before) in
-    (s .pre .0, omega (arith, s .pre .1), made-room (now (s .args .g)) (l .loop .m) (l .loop .r) (omega (arith, s .pre .1)) (l .loop .inv .1))
+    (small-less largest (now (s .args .g)) (l .loop .m + 1) (s .args .depth) (omega arith) (s .pre .0), omega (arith, s .pre .1), made-room passWords (now (s .args .g)) (l .loop .m) (l .loop .r) (omega (arith, s .pre .1)) (l .loop .inv .1))
 
 loop-less : tie.Need-loop-less Inv-loop μ-loop
 loop-less c = let go = going (c .before .before) in omega arith
 
 loop-again : tie.Need-loop-again Inv-loop μ-loop
 loop-again c = let l = c .before .before .before .before .before in let s = c .before .before .before .before .before .before .before .before in let g = now (s .args .g) in let made = l .loop .inv .1 in let go = going (c .before .before) in
-    (omega arith, made-next g (l .loop .m) (l .loop .r) _ made (go .1) (c .pass-at2 .ensures (made .pass) (made .is)))
+    (omega arith, made-next passWords g (l .loop .m) (l .loop .r) _ made (go .1) (c .pass-at2 .ensures (made .pass) (made .is)))
 
-settle-requires : tie.Need-settle-requires Inv-loop μ-loop
-settle-requires c κs = tt
+settled-requires : tie.Need-settled-requires Inv-loop μ-loop
+settled-requires c κs = tt
 
 returns : tie.Need-returns Inv-loop μ-loop
 returns c xs e = let l = c .before .before .before .before .before in let made = l .loop .inv .1 in
-    c .settle .ensures (made .pass) (made .is) ∙ settled xs (l .loop .m) (c .before .before .before .before .before .before .before .before .args .depth) (made .pass) (l .loop .inv .0) (made .at xs e) (λ b. last (c .before .before) b)
+    c .settled .ensures (made .pass) (made .is) ∙ settled xs (l .loop .m) (c .before .before .before .before .before .before .before .before .args .depth) (made .pass) (l .loop .inv .0) (made .at xs e) (λ b. last (c .before .before) b)
 
 pub record-spec : {M : Type 1} → statement M
 record-spec =
@@ -76,5 +79,5 @@ record-spec =
     pass-at-requires-2
     loop-less
     loop-again
-    settle-requires
+    settled-requires
     returns)

@@ -4,7 +4,7 @@ use Prim.Native.Nat.{ℕ}
 use borrow.Author.Needs.{needs}
 use Rattle.verdict_theory.specs.Clear.{more, openedClear}
 use Rattle.narrow_search.specs.Meaning.{passWords}
-use Rattle.narrow_search.specs.Visit.{later-clear}
+use Rattle.search_theory.specs.Visit.{later-clear}
 use Rattle.narrow_search.proofs.skip.Statement.{statement}
 use Rattle.narrow_search.proofs.skip.Tie as tie
 

@@ -7,6 +7,7 @@ use lib.Dec.{T}
 use lib.IntN.{ℤ, pos}
 use mir.Syntax.{w64}
 use mir.Val.{SFits}
+use Rattle.narrow_subdivision.specs.Word.{cutLargest}
 use Rattle.foundation.specs.Polynomial.{integers, eval}
 use Rattle.foundation.specs.Words.{Op, arg, lit, plus, times, formula, held, result, fits, held-is, result-fits, args, within}
 use Rattle.definitions.specs.Subdivision.{cutRow}
@@ -26,13 +27,13 @@ module _ (s : tie.Start) (o : Op) where
   abbrev row : List ℤ
   row = s .args .p ∷ s .args .q ∷ s .args .r ∷ []
 
-  exact-fits : T (fits (λ _. 2 ^ 61 - 1) o) → SFits w64 (result (args row) o)
-  exact-fits t = result-fits (args row) (λ _. 2 ^ 61 - 1) (within (2 ^ 61 - 1) row (s .pre)) o t
+  exact-fits : T (fits (λ _. cutLargest) o) → SFits w64 (result (args row) o)
+  exact-fits t = result-fits (args row) (λ _. cutLargest) (within cutLargest row (s .pre)) o t
 
   -- entry i of half h is this formula
-  exact : (h i : ℕ) → T (fits (λ _. 2 ^ 61 - 1) o) → eval (args row) (formula o) ≡ cutRow integers h (args row) i → h ≡ s .args .h → i ≡ s .args .i
+  exact : (h i : ℕ) → T (fits (λ _. cutLargest) o) → eval (args row) (formula o) ≡ cutRow integers h (args row) i → h ≡ s .args .h → i ≡ s .args .i
       → held (args row) o ≡ cutRow integers (s .args .h) (args row) (s .args .i)
-  exact h i t e p q = held-is (args row) (λ _. 2 ^ 61 - 1) (within (2 ^ 61 - 1) row (s .pre)) o t ∙ e ∙ (λ j. cutRow integers (p j) (args row) (q j))
+  exact h i t e p q = held-is (args row) (λ _. cutLargest) (within cutLargest row (s .pre)) o t ∙ e ∙ (λ j. cutRow integers (p j) (args row) (q j))
 
 mul-result : tie.Need-mul-result
 mul-result c = exact-fits (c .before .before) (four 0) tt

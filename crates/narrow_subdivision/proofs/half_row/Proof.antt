@@ -5,8 +5,9 @@ use Prim.Native.Nat.{ℕ, _-_, _^_, _<_, _≤_}
 use native.Mathlib.Omega.{arith}
 use lib.ListN.{getD, length}
 use lib.IntN.{ℤ, pos, natAbs}
+use Rattle.narrow_subdivision.specs.Word.{cutLargest}
 use Rattle.foundation.specs.Words.{Within, within}
-use Rattle.narrow_subdivision.specs.Rows.{rowAt, putRow}
+use Rattle.narrow_subdivision.specs.Rows.{lineAt, putRow}
 use Rattle.narrow_subdivision.specs.RowLaws.{row-small, row-held}
 use Rattle.narrow_subdivision.proofs.Read.{back, row-back, read-within}
 use borrow.Author.Needs.{needs}
@@ -18,12 +19,12 @@ module _ (s : tie.Start) where
   small = row-small (s .pre .0)
 
   abbrev row : List ℤ
-  row = rowAt (s .args .c .now) (s .args .x) (s .args .y) (s .args .z)
+  row = lineAt (s .args .c .now) (s .args .x) (s .args .y) (s .args .z)
 
-  row-within : Within (2 ^ 61 - 1) row
-  row-within = let each : (n : ℕ) → natAbs (getD (s .args .c .now) n (pos 0)) ≤ 2 ^ 61 - 1 = within (2 ^ 61 - 1) (s .args .c .now) (s .pre .1 .control .within) in (each _, (each _, (each _, tt)))
+  row-within : Within cutLargest row
+  row-within = let each : (n : ℕ) → natAbs (getD (s .args .c .now) n (pos 0)) ≤ cutLargest = within cutLargest (s .args .c .now) (s .pre .1 .control .within) in (each _, (each _, (each _, tt)))
 
-  room : Within (2 ^ 61 - 1) (map back row) × ((s .args .x < length (s .args .out .now)) × (s .args .y < length (s .args .out .now)) × (s .args .z < length (s .args .out .now)))
+  room : Within cutLargest (map back row) × ((s .args .x < length (s .args .out .now)) × (s .args .y < length (s .args .out .now)) × (s .args .z < length (s .args .out .now)))
   room = let l : length (s .args .out .now) ≡ 27 = s .pre .1 .sized in (read-within row row-within, (omega (arith, small .0), omega (arith, small .1), omega (arith, small .2)))
 
   abbrev put : List ℤ → List ℤ

@@ -6,6 +6,7 @@ use lib.IntN.{ℤ}
 use mir.Syntax.{w64}
 use mir.Val.{SFits}
 use Rattle.foundation.specs.Words.{Op, arg, minus, times, plus, fits, result, args, within, result-fits, held-is}
+use Rattle.narrow_coefficients.specs.Range.{middleLimit}
 use Rattle.narrow_coefficients.proofs.volume.determinant.Statement.{statement}
 use Rattle.narrow_coefficients.proofs.volume.determinant.Tie as tie
 
@@ -13,8 +14,8 @@ abbrev numbers : tie.Start → List ℤ
 numbers c = c .args .ux ∷ c .args .uy ∷ c .args .uz ∷ c .args .vx ∷ c .args .vy ∷ c .args .vz ∷ c .args .wx ∷ c .args .wy ∷ c .args .wz ∷ []
 
 -- each operation on the nine fits
-fit : (c : tie.Start) (o : Op) → T (fits (λ _. 16384) o) → SFits w64 (result (args (numbers c)) o)
-fit c = result-fits (args (numbers c)) (λ _. 16384) (within 16384 (numbers c) (c .pre))
+fit : (c : tie.Start) (o : Op) → T (fits (λ _. middleLimit) o) → SFits w64 (result (args (numbers c)) o)
+fit c = result-fits (args (numbers c)) (λ _. middleLimit) (within middleLimit (numbers c) (c .pre))
 
 -- a product of a coordinate of v, the first number, with one of w, the second
 abbrev vw : ℕ → ℕ → Op
@@ -78,7 +79,7 @@ add-result : tie.Need-add-result
 add-result c = fit c three tt
 
 returns : tie.Need-returns
-returns c = held-is (args (numbers c)) (λ _. 16384) (within 16384 (numbers c) (c .pre)) three tt
+returns c = held-is (args (numbers c)) (λ _. middleLimit) (within middleLimit (numbers c) (c .pre)) three tt
 
 pub determinant-spec : {M : Type 1} → statement M
 determinant-spec =

@@ -5,6 +5,7 @@ use mir.Syntax.{w64}
 use mir.Val.{ofZ}
 use Rattle.foundation.specs.Held.{Rep, sub, sub-fits}
 use Rattle.definitions.specs.Jacobian.{nodesOf}
+use Rattle.narrow_coefficients.specs.Range.{narrowRange}
 use Rattle.narrow_coefficients.proofs.Results.{answered}
 use Rattle.narrow_coefficients.proofs.volume.edge.Statement.{statement}
 use Rattle.narrow_coefficients.proofs.volume.edge.Tie as tie
@@ -13,11 +14,11 @@ module _ (c : tie.After-coordinate2) where
   abbrev s : tie.Start
   s = c .before .before
 
-  end : Rep (ofZ w64 (c .before .coordinate .result)) (nodesOf (s .args .p .now) (s .args .b - 1) (s .args .e)) 4096
-  end = answered 4096 (c .before .coordinate .ensures) (s .pre .0 .small (3 * (s .args .b - 1) + s .args .e)) tt
+  end : Rep (ofZ w64 (c .before .coordinate .result)) (nodesOf (s .args .p .now) (s .args .b - 1) (s .args .e)) narrowRange
+  end = answered narrowRange (c .before .coordinate .ensures) (s .pre .0 .small (3 * (s .args .b - 1) + s .args .e)) tt
 
-  start : Rep (ofZ w64 (c .coordinate2 .result)) (nodesOf (s .args .p .now) (s .args .a - 1) (s .args .e)) 4096
-  start = answered 4096 (c .coordinate2 .ensures) (s .pre .0 .small (3 * (s .args .a - 1) + s .args .e)) tt
+  start : Rep (ofZ w64 (c .coordinate2 .result)) (nodesOf (s .args .p .now) (s .args .a - 1) (s .args .e)) narrowRange
+  start = answered narrowRange (c .coordinate2 .ensures) (s .pre .0 .small (3 * (s .args .a - 1) + s .args .e)) tt
 
 coordinate-requires : tie.Need-coordinate-requires
 coordinate-requires c κs = search needs

@@ -6,6 +6,7 @@ use Rattle.foundation.specs.Polynomial.{integers}
 use Rattle.foundation.specs.Held.{Rep, add, add-fits}
 use Rattle.definitions.specs.Jacobian.{nodesOf}
 use Rattle.definitions.specs.Coefficients.{edge}
+use Rattle.narrow_coefficients.specs.Range.{edgeLimit}
 use Rattle.narrow_coefficients.proofs.Results.{answered}
 use Rattle.narrow_coefficients.proofs.Sizes.{edge-small}
 use Rattle.narrow_coefficients.proofs.volume.middle.Statement.{statement}
@@ -15,11 +16,11 @@ module _ (c : tie.After-edge2) where
   abbrev s : tie.Start
   s = c .before .before
 
-  first : Rep (ofZ w64 (c .before .edge .result)) (edge integers (nodesOf (s .args .p .now)) (s .args .a) (s .args .b) (s .args .e)) 8192
-  first = answered 8192 (c .before .edge .ensures) (edge-small (s .pre .0) (s .args .a) (s .args .b) (s .args .e)) tt
+  first : Rep (ofZ w64 (c .before .edge .result)) (edge integers (nodesOf (s .args .p .now)) (s .args .a) (s .args .b) (s .args .e)) edgeLimit
+  first = answered edgeLimit (c .before .edge .ensures) (edge-small (s .pre .0) (s .args .a) (s .args .b) (s .args .e)) tt
 
-  second : Rep (ofZ w64 (c .edge2 .result)) (edge integers (nodesOf (s .args .p .now)) (s .args .a) (s .args .c) (s .args .e)) 8192
-  second = answered 8192 (c .edge2 .ensures) (edge-small (s .pre .0) (s .args .a) (s .args .c) (s .args .e)) tt
+  second : Rep (ofZ w64 (c .edge2 .result)) (edge integers (nodesOf (s .args .p .now)) (s .args .a) (s .args .c) (s .args .e)) edgeLimit
+  second = answered edgeLimit (c .edge2 .ensures) (edge-small (s .pre .0) (s .args .a) (s .args .c) (s .args .e)) tt
 
 edge-requires : tie.Need-edge-requires
 edge-requires c κs = search needs

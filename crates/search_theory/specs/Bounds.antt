@@ -12,23 +12,18 @@ use lib.Signed.{_≤ℤ_, leZ-yes}
 use Rattle.foundation.specs.Lists.{All, all-map, all-both, all-image, all-concat, all-getD, concatMap, tabulate}
 use Rattle.foundation.specs.Least.{lesser, leastFrom}
 use Rattle.definitions.specs.Jacobian.{side}
-use Rattle.definitions.specs.Subdivision.{Cell, child, children, cells}
+use Rattle.definitions.specs.Subdivision.{Cell, child, children, whole, cells}
 use Rattle.definitions.specs.Verdict.{Finding, cornersOf, coefficientsOf}
-use Rattle.definitions.specs.Limits.{base}
 use Rattle.definitions.specs.Coefficients.{coefficients}
 use Rattle.definitions.specs.Bounds.{low, high}
 use Rattle.expansion_theory.specs.Cells.{CellOf, all-cells, corner-is}
-use Rattle.expansion_theory.specs.Size.{coefficient-size}
+use Rattle.expansion_theory.specs.Size.{cells-size}
 use Rattle.verdict_theory.specs.Positive.{findings-of, corners-of}
 use Rattle.verdict_theory.specs.Search.{cornerValues}
 use Rattle.verdict_theory.specs.Clear.{childControl, child-control}
 use Rattle.verdict_theory.specs.Extremes.{Extremes, withAll, extremes, extremes-bounds}
-use Rattle.narrow_search.specs.Meaning.{size}
-use Rattle.narrow_search.specs.Levels.{wholeOf, whole-is}
-use Rattle.narrow_search.specs.declared.Extremes.{Extremes as HeldExtremes}
-
-abbrev pub extremesOf : HeldExtremes → Extremes
-extremesOf r = record { low = r .low; high = r .high }
+use Rattle.search_theory.specs.Meaning.{Small}
+use Rattle.search_theory.specs.Levels.{wholeOf, whole-is}
 
 -- the 27 coefficients of one cell more, of which the first 8 are its corners
 abbrev pub withControl : List ℤ → Extremes → Extremes
@@ -84,24 +79,26 @@ least-next v g k h = let p : k + 1 ≡ suc k = omega arith in ap (λ (n : ℕ). 
 abbrev pub boundsAt : List ℤ → ℕ → Extremes
 boundsAt xs D = record { low = low xs D; high = high xs D }
 
-abbrev greatest : ℤ
-greatest = pos 9223372036854775807
-
 below-magnitude : (z : ℤ) (b : ℕ) → natAbs z ≤ b → z ≤ℤ pos b
 below-magnitude (pos n) b h = leZ-yes (le→leb n b h)
 below-magnitude (negsuc n) b h = leZ-yes tt
 
-size-most : (D : ℕ) → D ≤ base .depth → size D ≤ 9223372036854775807
-size-most D h = let p : 64 ^ D ≤ 64 ^ 3 = pow-le-pow-right (zero-lt-suc 63) h in omega arith
+-- a search of coefficients that stay within `top` starts from `top` itself: none passes it
+module _ (top : ℕ) (xs : List ℤ) (D : ℕ) (small : Small top (coefficients xs) D) where
+  abbrev greatest : ℤ
+  greatest = pos top
 
-module _ (xs : List ℤ) (D : ℕ) (h : D ≤ base .depth) (k : (i : ℕ) → natAbs (getD xs i (pos 0)) ≤ base .range) where
+  whole-within : All (λ v. natAbs v ≤ small .bound) (whole xs .control)
+  unfolding whole
+  whole-within = small .control .within
+
   abbrev Under : Cell → Type 0
   Under s = All (λ v. v ≤ℤ greatest) (s .control) × CellOf xs D s
 
   cells-under : All Under (cells xs D)
   cells-under = all-both (λ s. All (λ v. v ≤ℤ greatest) (s .control)) (CellOf xs D) (cells xs D)
-      (all-map (λ s. All (λ v. natAbs v ≤ size D) (s .control)) (λ s. All (λ v. v ≤ℤ greatest) (s .control))
-      (λ s p. all-map (λ v. natAbs v ≤ size D) (λ v. v ≤ℤ greatest) (λ v q. below-magnitude v 9223372036854775807 (le-trans q (size-most D h))) (s .control) p) (cells xs D) (coefficient-size xs (base .range) k D))
+      (all-map (λ s. All (λ v. natAbs v ≤ small .bound * 64 ^ D) (s .control)) (λ s. All (λ v. v ≤ℤ greatest) (s .control))
+      (λ s p. all-map (λ v. natAbs v ≤ small .bound * 64 ^ D) (λ v. v ≤ℤ greatest) (λ v q. below-magnitude v top (le-trans q (small .small))) (s .control) p) (cells xs D) (cells-size xs (small .bound) whole-within D))
       (all-cells xs D)
 
   one-under : (s : Cell) → Under s → (n : ℕ) → n < 27 → getD (s .control) n (pos 0) ≤ℤ greatest
@@ -116,5 +113,8 @@ module _ (xs : List ℤ) (D : ℕ) (h : D ≤ base .depth) (k : (i : ℕ) → na
       (all-map Under (λ s. All (λ f. (f .value) ≤ℤ greatest) (cornersOf xs D s))
       (λ s p. corners-of xs (λ f. (f .value) ≤ℤ greatest) D s (λ n l. subst (λ v. v ≤ℤ greatest) (corner-is xs D s (p .1) n l) (one-under s p n (omega arith)))) (cells xs D) cells-under))
 
-  pub bounds-are : (g : List ℤ) → g ≡ coefficients xs → extremes D (wholeOf g) (record { low = greatest; high = greatest }) ≡ boundsAt xs D
-  bounds-are g e = ap (λ (s : Cell). extremes D s (record { low = greatest; high = greatest })) (whole-is xs g e) ∙ extremes-bounds xs D greatest coefficients-under corners-under
+  bounds-here : (g : List ℤ) → g ≡ coefficients xs → extremes D (wholeOf g) (record { low = greatest; high = greatest }) ≡ boundsAt xs D
+  bounds-here g e = ap (λ (s : Cell). extremes D s (record { low = greatest; high = greatest })) (whole-is xs g e) ∙ extremes-bounds xs D greatest coefficients-under corners-under
+
+pub bounds-are : (top : ℕ) (xs g : List ℤ) (D : ℕ) → g ≡ coefficients xs → Small top g D → extremes D (wholeOf g) (record { low = pos top; high = pos top }) ≡ boundsAt xs D
+bounds-are top xs g D e small = bounds-here top xs D (subst (λ (c : List ℤ). Small top c D) e small) g e

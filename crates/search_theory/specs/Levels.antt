@@ -3,10 +3,10 @@ use mathlib.Core.Path.{_≡_, refl, sym, _∙_, ap, subst}
 use mathlib.Core.Bool.{Bool, true, false, true≢false}
 use mathlib.Core.List.{List}
 use Prim.Native.Nat.{ℕ, zero, suc, _+_, _^_, _<_, _≤_}
-use native.Mathlib.Nat.{pow-le-pow-right, zero-lt-suc, mul-le-mul-left}
+use native.Mathlib.Nat.{pow-le-pow-right, zero-lt-suc}
 use native.Mathlib.Omega.{arith}
 use lib.IntN.{ℤ}
-use Rattle.definitions.specs.Limits.{base}
+use Rattle.foundation.specs.Lists.{up}
 use Rattle.definitions.specs.Coefficients.{coefficients}
 use Rattle.definitions.specs.Subdivision.{Cell, whole}
 use Rattle.definitions.specs.Verdict.{Verdict, valid, invalid, undecided}
@@ -14,9 +14,8 @@ use Rattle.definitions.specs.Record.{verdictWords, recordOf}
 use Rattle.verdict_theory.specs.Search.{Found, nothing, coefficient, point, Pass, pass, visit}
 use Rattle.verdict_theory.specs.Opened.{most}
 use Rattle.verdict_theory.specs.Passes.{Before, before-first, pass-point, pass-nothing, pass-last, pass-on}
-use Rattle.narrow_subdivision.specs.Control.{Control}
-use Rattle.narrow_search.specs.Meaning.{cellOf, passWords, Held, size, Grid, Room}
-use Rattle.narrow_search.specs.Visit.{visit-count}
+use Rattle.search_theory.specs.Meaning.{cellOf, Small, deepest, countRoom, Grid, Room, Held}
+use Rattle.search_theory.specs.Visit.{visit-count}
 
 abbrev pub wholeOf : List ℤ → Cell
 wholeOf g = cellOf 0 0 0 g
@@ -77,41 +76,41 @@ most-next m = let p : m + 1 ≡ suc m = omega arith in ap most p ∙ ap (λ (n :
 most-room : (m c c′ : ℕ) → c ≤ most m → c′ ≤ c + 8 ^ (m + 1) → c′ ≤ most (m + 1)
 most-room m c c′ h k = omega (arith, most-next m)
 
-most-small : (m : ℕ) → m < 3 → most m ≤ 585
-most-small zero h = omega arith
-most-small (suc zero) h = omega arith
-most-small (suc (suc zero)) h = omega arith
-most-small (suc (suc (suc m))) h = absurd (omega arith)
+most-less : (m : ℕ) → m ≤ deepest → most m ≤ most deepest
+most-less m h = up (λ k. most m ≤ most k) (λ k q. omega arith) m deepest h (omega arith)
 
-count-room : (m c : ℕ) → m < base .depth → c ≤ most m → c + 8 ^ (m + 1) < 2 ^ 63
-count-room m c h k = let l : m + 1 ≤ 3 = omega arith in let p : 8 ^ (m + 1) ≤ 8 ^ 3 = pow-le-pow-right (zero-lt-suc 7) l in omega (arith, most-small m h)
+count-room : (m c : ℕ) → m < deepest → c ≤ most m → c + 8 ^ (m + 1) < countRoom
+count-room m c h k = let l : m + 1 ≤ deepest = omega arith in let p : 8 ^ (m + 1) ≤ 8 ^ deepest = pow-le-pow-right (zero-lt-suc 7) l in omega (arith, most-less m (omega arith))
 
 -- ---- the whole element has room for every level
-pub whole-room : (g : List ℤ) → Control (size 0) g → (level : ℕ) → level ≤ base .depth → Room g 0 0 0 level
-whole-room g k level h = let grid : Grid 0 level = mul-le-mul-left 1 (pow-le-pow-right (zero-lt-suc 1) h) in
-    record { small = record { bound = size 0; control = k; small = mul-le-mul-left (size 0) (pow-le-pow-right (zero-lt-suc 63) h) }; a-grid = grid; b-grid = grid; c-grid = grid }
+pub whole-room : (top : ℕ) (g : List ℤ) (level : ℕ) → Small top g level → level ≤ deepest → Room top g 0 0 0 level
+whole-room top g level small h =
+    let p : 2 ^ level ≤ 2 ^ deepest = pow-le-pow-right (zero-lt-suc 1) h in
+    let grid : Grid 0 level = omega arith in
+    record { small = small; a-grid = grid; b-grid = grid; c-grid = grid }
 
-pub whole-held : (level m : ℕ) (ws : List ℤ) → ws ≡ passWords (fresh m) → m + 8 ^ level < 2 ^ 63 → Held (8 ^ level) ws
-whole-held level m ws e h = record { pass = fresh m; is = e; room = h }
+-- ---- what holds a pass between passes
+module _ {A : Type 0} (words : Pass → A) where
+  pub whole-held : (level m : ℕ) (ws : A) → ws ≡ words (fresh m) → m + 8 ^ level < countRoom → Held words (8 ^ level) ws
+  whole-held level m ws e h = record { pass = fresh m; is = e; room = h }
 
--- ---- the words between passes
-pub record Made (g : List ℤ) (m : ℕ) (ws : List ℤ) : Type 0 where
-  pub pass : Pass
-  pub is : ws ≡ passWords pass
-  pub few : pass .count ≤ most m
-  pub at : (xs : List ℤ) → g ≡ coefficients xs → At xs m pass
+  pub record Made (g : List ℤ) (m : ℕ) (ws : A) : Type 0 where
+    pub pass : Pass
+    pub is : ws ≡ words pass
+    pub few : pass .count ≤ most m
+    pub at : (xs : List ℤ) → g ≡ coefficients xs → At xs m pass
 
-module _ (g : List ℤ) where
-  pub made-first : (ws : List ℤ) → ws ≡ passWords (visit 0 (wholeOf g) (fresh 0)) → Made g 0 ws
-  made-first ws e = record { pass = visit 0 (wholeOf g) (fresh 0); is = e; few = visit-count 0 (wholeOf g) (fresh 0); at = λ xs h. at-first xs g h (visit 0 (wholeOf g) (fresh 0)) refl }
+  module _ (g : List ℤ) where
+    pub made-first : (ws : A) → ws ≡ words (visit 0 (wholeOf g) (fresh 0)) → Made g 0 ws
+    made-first ws e = record { pass = visit 0 (wholeOf g) (fresh 0); is = e; few = visit-count 0 (wholeOf g) (fresh 0); at = λ xs h. at-first xs g h (visit 0 (wholeOf g) (fresh 0)) refl }
 
-  pub made-next : (m : ℕ) (ws vs : List ℤ) (made : Made g m ws) → isBlocked (made .pass .found) ≡ true → vs ≡ passWords (visit (m + 1) (wholeOf g) (fresh (made .pass .count))) → Made g (m + 1) vs
-  made-next m ws vs made b e = let r = visit (m + 1) (wholeOf g) (fresh (made .pass .count)) in record {
-    pass = r;
-    is = e;
-    few = most-room m (made .pass .count) (r .count) (made .few) (visit-count (m + 1) (wholeOf g) (fresh (made .pass .count)));
-    at = λ xs h. at-next xs g h m (made .pass) r (made .at xs h) b refl;
-  }
+    pub made-next : (m : ℕ) (ws vs : A) (made : Made g m ws) → isBlocked (made .pass .found) ≡ true → vs ≡ words (visit (m + 1) (wholeOf g) (fresh (made .pass .count))) → Made g (m + 1) vs
+    made-next m ws vs made b e = let r = visit (m + 1) (wholeOf g) (fresh (made .pass .count)) in record {
+      pass = r;
+      is = e;
+      few = most-room m (made .pass .count) (r .count) (made .few) (visit-count (m + 1) (wholeOf g) (fresh (made .pass .count)));
+      at = λ xs h. at-next xs g h m (made .pass) r (made .at xs h) b refl;
+    }
 
-pub made-room : (g : List ℤ) (m : ℕ) (ws : List ℤ) → m < base .depth → Made g m ws → Held (8 ^ (m + 1)) ws
-made-room g m ws h made = record { pass = made .pass; is = made .is; room = count-room m (made .pass .count) h (made .few) }
+    pub made-room : (m : ℕ) (ws : A) → m < deepest → Made g m ws → Held words (8 ^ (m + 1)) ws
+    made-room m ws h made = record { pass = made .pass; is = made .is; room = count-room m (made .pass .count) h (made .few) }

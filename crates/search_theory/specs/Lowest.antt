@@ -14,7 +14,7 @@ use Rattle.definitions.specs.Subdivision.{Cell}
 use Rattle.definitions.specs.Verdict.{Finding, firstLow, found, coefficientsOf, blocked}
 use Rattle.verdict_theory.specs.Findings.{orElse}
 use Rattle.verdict_theory.specs.Search.{Found, nothing, coefficient, point, finds, pass, ended, openAfter, openCell, cornerValues}
-use Rattle.narrow_search.specs.Meaning.{lowFrom, lowest}
+use Rattle.search_theory.specs.Meaning.{lowFrom, lowest}
 
 module _ (g : List ℤ) where
   abbrev step : ℕ → ℕ → Bool → ℕ

@@ -10,7 +10,7 @@ use Rattle.definitions.specs.Coefficients.{coefficients}
 use Rattle.definitions.specs.Subdivision.{whole}
 use Rattle.expansion_theory.specs.Expansion.{length-coefficients}
 use Rattle.expansion_theory.specs.Size.{whole-size}
-use Rattle.narrow_subdivision.specs.Control.{Control}
+use Rattle.expansion_theory.specs.Control.{Control}
 use Rattle.narrow_search.specs.Meaning.{size}
 
 pub record OfPoints (g : List ℤ) : Type 0 where

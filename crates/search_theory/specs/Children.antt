@@ -7,7 +7,6 @@ use native.Mathlib.Omega.{arith}
 use lib.ListN.{length}
 use lib.IntN.{ℤ}
 use Rattle.foundation.specs.Lists.{equal-below}
-use Rattle.definitions.specs.Limits.{base}
 use Rattle.definitions.specs.Jacobian.{side}
 use Rattle.definitions.specs.Subdivision.{halve, child}
 use Rattle.expansion_theory.specs.Cut.{length-halve}
@@ -15,9 +14,9 @@ use Rattle.expansion_theory.specs.Size.{halve-size}
 use Rattle.verdict_theory.specs.Points.{side-small}
 use Rattle.verdict_theory.specs.Commute.{child-by-halves}
 use Rattle.verdict_theory.specs.Clear.{Clear, unblocked-clear, halfOf, quarterOf, childControl, half-clear, quarter-clear}
-use Rattle.narrow_subdivision.specs.Control.{Control, within-more}
-use Rattle.narrow_search.specs.Meaning.{cellOf, lowest, size, Small, Grid, Room}
-use Rattle.narrow_search.specs.Lowest.{clear}
+use Rattle.expansion_theory.specs.Control.{Control, Cuttable}
+use Rattle.search_theory.specs.Meaning.{cellOf, lowest, Small, gridRoom, Grid, Room}
+use Rattle.search_theory.specs.Lowest.{clear}
 
 -- ---- which children lie in one half, and in one quarter
 -- the side of child k in ζ changes every four children, that in η every two
@@ -107,55 +106,57 @@ child-made g k quarter xs e f = f ∙ ap (halve 0 (side 0 k)) e ∙ child-by-hal
 half-control : (b d h : ℕ) (c : List ℤ) → Control b c → Control (4 * b) (halve d h c)
 half-control b d h c w = record { sized = length-halve d h c; within = halve-size b d h c (w .within) }
 
-control-more : (a b : ℕ) (c : List ℤ) → a ≤ b → Control a c → Control b c
-control-more a b c h w = record { sized = w .sized; within = within-more a b c h (w .within) }
-
 grown : (k x n : ℕ) → k * x * k ^ n ≡ x * k ^ suc n
 grown k x n = ap (λ (m : ℕ). m * k ^ n) (mul-comm k x) ∙ mul-assoc x k (k ^ n) ∙ ap (λ (m : ℕ). x * m) (sym (pow-succ' k n))
 
--- a cell that is cut, its half and its quarter
-module _ (g : List ℤ) (w : Control (2 ^ 57 - 1) g) where
-  pub cut-control : Control (2 ^ 61 - 1) g
-  cut-control = control-more (2 ^ 57 - 1) (2 ^ 61 - 1) g (omega arith) w
+-- fewer levels need less
+pub small-less : (top : ℕ) (g : List ℤ) (m n : ℕ) → m ≤ n → Small top g n → Small top g m
+small-less top g m n l s = record { bound = s .bound; control = s .control; small = le-trans (mul-le-mul-left (s .bound) (pow-le-pow-right (zero-lt-suc 63) l)) (s .small) }
 
-  pub cut-half : (k : ℕ) → Control (2 ^ 61 - 1) (halfOf g k)
-  cut-half k = control-more (4 * (2 ^ 57 - 1)) (2 ^ 61 - 1) (halfOf g k) (omega arith) (half-control (2 ^ 57 - 1) 2 (side 2 k) g w)
+module _ (top : ℕ) (g : List ℤ) where
+  -- a cell that is cut, its half and its quarter
+  module _ (w : Small top g 1) where
+    pub cut-whole : Cuttable top g
+    cut-whole = record { bound = w .bound; control = w .control; room = omega (arith, w .small) }
 
-  pub cut-quarter : (k : ℕ) → Control (2 ^ 61 - 1) (quarterOf g k)
-  cut-quarter k = control-more (4 * (4 * (2 ^ 57 - 1))) (2 ^ 61 - 1) (quarterOf g k) (omega arith) (half-control (4 * (2 ^ 57 - 1)) 1 (side 1 k) (halfOf g k) (half-control (2 ^ 57 - 1) 2 (side 2 k) g w))
+    pub cut-half : (k : ℕ) → Cuttable top (halfOf g k)
+    cut-half k = record { bound = 4 * w .bound; control = half-control (w .bound) 2 (side 2 k) g (w .control); room = omega (arith, w .small) }
 
--- and its child
-module _ (g : List ℤ) where
-  pub cut-small : (left : ℕ) → Small g left → (left ≡ 0 → ⊥) → Control (2 ^ 57 - 1) g
-  cut-small zero room some = absurd (some refl)
-  cut-small (suc n) room some = let p : 1 ≤ suc n = omega arith in let q : 64 ^ 1 ≤ 64 ^ suc n = pow-le-pow-right (zero-lt-suc 63) p in
-      let r : room .bound * 64 ≤ size (base .depth) = le-trans (mul-le-mul-left (room .bound) q) (room .small) in
-      let l : room .bound ≤ 2 ^ 57 - 1 = omega (arith, r) in control-more (room .bound) (2 ^ 57 - 1) g l (room .control)
+    pub cut-quarter : (k : ℕ) → Cuttable top (quarterOf g k)
+    cut-quarter k = record {
+      bound = 4 * (4 * w .bound);
+      control = half-control (4 * w .bound) 1 (side 1 k) (halfOf g k) (half-control (w .bound) 2 (side 2 k) g (w .control));
+      room = omega (arith, w .small);
+    }
 
-  pub child-small : (left k : ℕ) (xs : List ℤ) → Small g left → (left ≡ 0 → ⊥) → xs ≡ childControl g k → Small xs (left - 1)
+  pub cut-small : (left : ℕ) → Small top g left → (left ≡ 0 → ⊥) → Small top g 1
+  cut-small left room some = small-less top g 1 left (omega arith) room
+
+  -- and its child
+  pub child-small : (left k : ℕ) (xs : List ℤ) → Small top g left → (left ≡ 0 → ⊥) → xs ≡ childControl g k → Small top xs (left - 1)
   child-small zero k xs room some e = absurd (some refl)
   child-small (suc n) k xs room some e = let f : n ≡ suc n - 1 = omega arith in let m : 4 * (4 * (4 * room .bound)) ≡ 64 * room .bound = omega arith in
       let half = halve 0 (side 0 k) g in let quarter = halve 1 (side 1 k) half in
-      subst (λ (c : List ℤ). Small c (suc n - 1)) (sym e) (subst (Small (childControl g k)) f (record {
+      subst (λ (c : List ℤ). Small top c (suc n - 1)) (sym e) (subst (Small top (childControl g k)) f (record {
         bound = 64 * room .bound;
         control = subst (λ (b : ℕ). Control b (childControl g k)) m (half-control (4 * (4 * room .bound)) 2 (side 2 k) quarter (half-control (4 * room .bound) 1 (side 1 k) half (half-control (room .bound) 0 (side 0 k) g (room .control))));
-        small = subst (λ (i : ℕ). i ≤ size (base .depth)) (sym (grown 64 (room .bound) n)) (room .small);
+        small = subst (λ (i : ℕ). i ≤ top) (sym (grown 64 (room .bound) n)) (room .small);
       }))
 
 -- a grid number can be doubled, and its child's has room
 pub grid-doubled : (x left : ℕ) → Grid x left → (left ≡ 0 → ⊥) → 2 * x + 1 < 2 ^ 32
 grid-doubled x zero h some = absurd (some refl)
-grid-doubled x (suc n) h some = let p : 1 ≤ suc n = omega arith in let q : 2 ^ 1 ≤ 2 ^ suc n = pow-le-pow-right (zero-lt-suc 1) p in let r : (x + 1) * 2 ≤ 2 ^ base .depth = le-trans (mul-le-mul-left (x + 1) q) h in omega arith
+grid-doubled x (suc n) h some = let p : 1 ≤ suc n = omega arith in let q : 2 ^ 1 ≤ 2 ^ suc n = pow-le-pow-right (zero-lt-suc 1) p in let r : (x + 1) * 2 ≤ gridRoom = le-trans (mul-le-mul-left (x + 1) q) h in omega arith
 
 child-grid : (x left t : ℕ) → Grid x left → (left ≡ 0 → ⊥) → t < 2 → Grid (2 * x + t) (left - 1)
 child-grid x zero t h some l = absurd (some refl)
 child-grid x (suc n) t h some l = let e : n ≡ suc n - 1 = omega arith in let p : 2 * x + t + 1 ≤ 2 * (x + 1) = omega arith in
-    subst (Grid (2 * x + t)) e (le-trans (mul-le-mul-right (2 ^ n) p) (subst (λ (i : ℕ). i ≤ 2 ^ base .depth) (sym (grown 2 (x + 1) n)) h))
+    subst (Grid (2 * x + t)) e (le-trans (mul-le-mul-right (2 ^ n) p) (subst (λ (i : ℕ). i ≤ gridRoom) (sym (grown 2 (x + 1) n)) h))
 
-module _ (g : List ℤ) (a b c k x y z : ℕ) (xs : List ℤ) (e : xs ≡ childControl g k) (p : x ≡ side 0 k) (q : y ≡ side 1 k) (r : z ≡ side 2 k) where
-  pub child-room : (left : ℕ) → Room g a b c left → (left ≡ 0 → ⊥) → Room xs (2 * a + x) (2 * b + y) (2 * c + z) (left - 1)
+module _ (top : ℕ) (g : List ℤ) (a b c k x y z : ℕ) (xs : List ℤ) (e : xs ≡ childControl g k) (p : x ≡ side 0 k) (q : y ≡ side 1 k) (r : z ≡ side 2 k) where
+  pub child-room : (left : ℕ) → Room top g a b c left → (left ≡ 0 → ⊥) → Room top xs (2 * a + x) (2 * b + y) (2 * c + z) (left - 1)
   child-room left room some = record {
-    small = child-small g left k xs (room .small) some e;
+    small = child-small top g left k xs (room .small) some e;
     a-grid = child-grid a left x (room .a-grid) some (subst (λ (n : ℕ). n < 2) (sym p) (side-small 0 k));
     b-grid = child-grid b left y (room .b-grid) some (subst (λ (n : ℕ). n < 2) (sym q) (side-small 1 k));
     c-grid = child-grid c left z (room .c-grid) some (subst (λ (n : ℕ). n < 2) (sym r) (side-small 2 k));

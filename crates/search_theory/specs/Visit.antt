@@ -11,9 +11,9 @@ use Rattle.definitions.specs.Subdivision.{Cell, child, children}
 use Rattle.definitions.specs.Verdict.{blocked}
 use Rattle.verdict_theory.specs.Search.{Found, nothing, coefficient, point, Pass, ended, openCell, openAll, visit}
 use Rattle.verdict_theory.specs.Clear.{Clear, childControl, child-control, more, openedClear, visit-clear}
-use Rattle.narrow_search.specs.Meaning.{lowest, passWords, Held}
-use Rattle.narrow_search.specs.Lowest.{low}
-use Rattle.narrow_search.specs.Children.{lowest-clear}
+use Rattle.search_theory.specs.Meaning.{lowest, Held}
+use Rattle.search_theory.specs.Lowest.{low}
+use Rattle.search_theory.specs.Children.{lowest-clear}
 
 -- ---- the branches
 module _ (s : Cell) (r : Pass) where
@@ -115,20 +115,22 @@ unfolding children
 visit-over s r n going some h = sym (visit-all s r going n some (low s h))
 
 -- ---- room for one cell more, and for the cells of n children more
-pub one-held : (left : ℕ) (ws : List ℤ) → Held (8 ^ left) ws → Held 1 ws
-one-held left ws held = let p : 8 ^ 0 ≤ 8 ^ left = pow-le-pow-right (zero-lt-suc 7) zero-le in record { pass = held .pass; is = held .is; room = omega (arith, held .room, p) }
-
 pow-left : (n : ℕ) → (n ≡ 0 → ⊥) → 8 ^ n ≡ 8 * 8 ^ (n - 1)
 pow-left zero h = absurd (h refl)
 pow-left (suc n) h = let p : n ≡ suc n - 1 = omega arith in pow-succ' 8 n ∙ ap (λ (m : ℕ). 8 * 8 ^ m) p
 
-module _ (s : Cell) (left : ℕ) (some : left ≡ 0 → ⊥) (ws : List ℤ) (held : Held (8 ^ left) ws) (k n : ℕ) (l : k + n ≤ 8) (vs : List ℤ) (e : vs ≡ passWords (over s (held .pass) (left - 1) k)) where
-  run-held : Held (n * 8 ^ (left - 1)) vs
-  run-held = let x = 8 ^ (left - 1) in record { pass = over s (held .pass) (left - 1) k; is = e; room = omega (arith, held .room, pow-left left some, over-count s (held .pass) (left - 1) k, add-mul k n x, mul-le-mul-right x l) }
+module _ {A : Type 0} (words : Pass → A) where
+  pub one-held : (left : ℕ) (ws : A) → Held words (8 ^ left) ws → Held words 1 ws
+  one-held left ws held = let p : 8 ^ 0 ≤ 8 ^ left = pow-le-pow-right (zero-lt-suc 7) zero-le in record { pass = held .pass; is = held .is; room = omega (arith, held .room, p) }
 
-  pub skip-held : Held n vs
-  skip-held = let x = 8 ^ (left - 1) in let p : 8 ^ 0 ≤ x = pow-le-pow-right (zero-lt-suc 7) zero-le in let q : n * 1 ≤ n * x = mul-le-mul-left n p in
-      record { pass = run-held .pass; is = run-held .is; room = omega (arith, run-held .room, q) }
+  module _ (s : Cell) (left : ℕ) (some : left ≡ 0 → ⊥) (ws : A) (held : Held words (8 ^ left) ws) where
+    module _ (k n : ℕ) (l : k + n ≤ 8) (vs : A) (e : vs ≡ words (over s (held .pass) (left - 1) k)) where
+      run-held : Held words (n * 8 ^ (left - 1)) vs
+      run-held = let x = 8 ^ (left - 1) in record { pass = over s (held .pass) (left - 1) k; is = e; room = omega (arith, held .room, pow-left left some, over-count s (held .pass) (left - 1) k, add-mul k n x, mul-le-mul-right x l) }
 
-pub next-held : (s : Cell) (left : ℕ) → (left ≡ 0 → ⊥) → (ws : List ℤ) (held : Held (8 ^ left) ws) (k : ℕ) → k < 8 → (vs : List ℤ) → vs ≡ passWords (over s (held .pass) (left - 1) k) → Held (8 ^ (left - 1)) vs
-next-held s left some ws held k l vs e = let p : k + 1 ≤ 8 = omega arith in let h = run-held s left some ws held k 1 p vs e in record { pass = h .pass; is = h .is; room = omega (arith, h .room) }
+      pub skip-held : Held words n vs
+      skip-held = let x = 8 ^ (left - 1) in let p : 8 ^ 0 ≤ x = pow-le-pow-right (zero-lt-suc 7) zero-le in let q : n * 1 ≤ n * x = mul-le-mul-left n p in
+          record { pass = run-held .pass; is = run-held .is; room = omega (arith, run-held .room, q) }
+
+    pub next-held : (k : ℕ) → k < 8 → (vs : A) → vs ≡ words (over s (held .pass) (left - 1) k) → Held words (8 ^ (left - 1)) vs
+    next-held k l vs e = let p : k + 1 ≤ 8 = omega arith in let h = run-held k 1 p vs e in record { pass = h .pass; is = h .is; room = omega (arith, h .room) }

@@ -1,0 +1,6 @@
+pub mod Meaning
+pub mod Lowest
+pub mod Children
+pub mod Visit
+pub mod Levels
+pub mod Bounds
