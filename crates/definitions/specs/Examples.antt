@@ -3,15 +3,15 @@ use mathlib.Core.Path.{_≡_, refl}
 use mathlib.Core.Bool.{true, false}
 use mathlib.Core.List.{List, [], _∷_, _++_, map}
 use mathlib.Core.Option.{Option, none, some}
-use Prim.Native.Nat.{ℕ, suc, _/_, _%_}
+use Prim.Native.Nat.{ℕ, suc, _+_, _*_, _/_, _%_}
 use lib.Dec.{ltb}
-use lib.ListN.{length, take, drop}
+use lib.ListN.{getD, length, take, drop}
 use lib.IntN.{ℤ, pos, negsuc}
 use Rattle.foundation.specs.Lists.{All, concatMap, tabulate}
 use Rattle.definitions.specs.Limits.{base}
 use Rattle.definitions.specs.Jacobian.{jacobian, scaledJacobian}
-use Rattle.definitions.specs.Coefficients.{numbered, at, coefficients}
-use Rattle.definitions.specs.Subdivision.{halve, child, children, whole}
+use Rattle.definitions.specs.Coefficients.{numbered, numbers, at, coefficients}
+use Rattle.definitions.specs.Subdivision.{rows, halve, child, children, whole}
 use Rattle.definitions.specs.Verdict.{cornersOf, coefficientsOf, lowPoint, lowCoefficient, lastLevel, validLevel, verdict, openedBelow, openedCells, opened}
 use Rattle.definitions.specs.Bounds.{low, high}
 use Rattle.definitions.specs.Record.{words, recordOf}
@@ -196,3 +196,10 @@ Stamped t = (stampGiven (inspection base (t .nodes) (t .indices) (length (t .ind
 pub stamped-hold : All Stamped stamped
 unfolding jacobian scaledJacobian numbered at coefficients halve child children whole cornersOf coefficientsOf lowPoint lowCoefficient lastLevel validLevel verdict openedBelow openedCells opened recordOf missingIndex namedTwice pointsOf outOfRange faultOf elementRecord refusal records inspection stampOf
 stamped-hold = ((refl, refl), ((refl, refl), ((refl, refl), ((refl, refl), ((refl, refl), ((refl, refl), ((refl, refl), ((refl, refl), tt))))))))
+
+-- ---- the nine rows of the directions ξ, η and ζ, by the numbers of their coefficients
+pub rows-numbered : map (λ d. rows d (λ i j k. suc (getD numbers (9 * i + 3 * j + k) 0))) (0 ∷ 1 ∷ 2 ∷ []) ≡
+    ((1 ∷ 9 ∷ 2 ∷ []) ∷ (13 ∷ 22 ∷ 14 ∷ []) ∷ (5 ∷ 17 ∷ 6 ∷ []) ∷ (12 ∷ 21 ∷ 10 ∷ []) ∷ (25 ∷ 27 ∷ 23 ∷ []) ∷ (20 ∷ 26 ∷ 18 ∷ []) ∷ (4 ∷ 11 ∷ 3 ∷ []) ∷ (16 ∷ 24 ∷ 15 ∷ []) ∷ (8 ∷ 19 ∷ 7 ∷ []) ∷ []) ∷
+    ((1 ∷ 12 ∷ 4 ∷ []) ∷ (13 ∷ 25 ∷ 16 ∷ []) ∷ (5 ∷ 20 ∷ 8 ∷ []) ∷ (9 ∷ 21 ∷ 11 ∷ []) ∷ (22 ∷ 27 ∷ 24 ∷ []) ∷ (17 ∷ 26 ∷ 19 ∷ []) ∷ (2 ∷ 10 ∷ 3 ∷ []) ∷ (14 ∷ 23 ∷ 15 ∷ []) ∷ (6 ∷ 18 ∷ 7 ∷ []) ∷ []) ∷
+    ((1 ∷ 13 ∷ 5 ∷ []) ∷ (12 ∷ 25 ∷ 20 ∷ []) ∷ (4 ∷ 16 ∷ 8 ∷ []) ∷ (9 ∷ 22 ∷ 17 ∷ []) ∷ (21 ∷ 27 ∷ 26 ∷ []) ∷ (11 ∷ 24 ∷ 19 ∷ []) ∷ (2 ∷ 14 ∷ 6 ∷ []) ∷ (10 ∷ 23 ∷ 18 ∷ []) ∷ (3 ∷ 15 ∷ 7 ∷ []) ∷ []) ∷ []
+rows-numbered = refl

@@ -122,6 +122,11 @@ cell-expansion xs m n s cell a b c ha hb hc = let N = 2 ^ n in let M = 2 ^ m in
     (point-of-part M N (s .a) a (cell .a-below) ha) (point-of-part M N (s .b) b (cell .b-below) hb) (point-of-part M N (s .c) c (cell .c-below) hc)))
     ∙ sym (cell .restricts (grid N a b c))
 
+-- so of every cell of a level
+pub cells-expansion : (xs : List ℤ) (m : ℕ) → All (λ s. (n a b c : ℕ) → a ≤ 2 ^ n → b ≤ 2 ^ n → c ≤ 2 ^ n
+    → scaledJacobian xs (m + n) (2 ^ n * s .a + a) (2 ^ n * s .b + b) (2 ^ n * s .c + c) ≡ value integers (at (s .control)) (grid (2 ^ n) a b c)) (cells xs m)
+cells-expansion xs m = all-map (CellOf xs m) _ (λ s h n. cell-expansion xs m n s h) (cells xs m) (all-cells xs m)
+
 -- the first eight are the sums at the corners
 abbrev numberVar : ℕ → ℕ → ℕ → Expr
 numberVar i j k = var (getD numbers (9 * i + 3 * j + k) 0)

@@ -56,7 +56,7 @@ pub record First (vs : List Finding) (f : Finding) : Type 0 where
   pub before : List Finding
   pub after : List Finding
   pub splits : vs ≡ before ++ (f ∷ after)
-  pub earlier : All AboveZero before
+  pub earlier : All (λ v. pos 1 ≤ℤ v .value) before
   pub low : f .value ≤ℤ pos 0
 
 pub low-first : (vs : List Finding) (f : Finding) → firstLow vs ≡ some f → First vs f

@@ -5,6 +5,7 @@ use mathlib.Core.List.{List, [], _∷_, _++_}
 use mathlib.Core.Option.{Option, none, some}
 use Prim.Native.Nat.{ℕ, zero, suc, _<_, _≤_, _^_}
 use native.Mathlib.Omega.{arith}
+use lib.ListN.{length}
 use lib.IntN.{ℤ, pos}
 use lib.Signed.{_≤ℤ_}
 use Rattle.foundation.specs.Order.{Positive}
@@ -20,9 +21,17 @@ use Rattle.verdict_theory.specs.Points.{AtPoints, points-of, corners-at,
 use Rattle.verdict_theory.specs.Stable.{hasPoint, isClear, not-found, Way, isInvalid, isValid, isUndecided, way, Valid, Invalid, Undecided, no-points, invalid-verdict, valid-verdict, undecided-verdict}
 
 module _ (xs : List ℤ) where
-  -- J is above 0 at every grid point of level m; every coefficient of every cell of level m is above 0
+  -- J is above 0 at every grid point of level m
   abbrev pub PositiveGrid : ℕ → Type 0
-  PositiveGrid m = AtPoints xs Positive m
+  PositiveGrid m = (a b c : ℕ) → a ≤ 2 ^ m → b ≤ 2 ^ m → c ≤ 2 ^ m → pos 1 ≤ℤ scaledJacobian xs m a b c
+
+  -- some grid point of level m has J ≤ 0
+  abbrev pub LowAt : ℕ → Type 0
+  LowAt m = (a : ℕ) × (b : ℕ) × (c : ℕ) × ((a ≤ 2 ^ m) × (b ≤ 2 ^ m) × (c ≤ 2 ^ m)) × (scaledJacobian xs m a b c ≤ℤ pos 0)
+
+  -- every coefficient of every cell of level m is above 0
+  abbrev pub PositiveCells : ℕ → Type 0
+  PositiveCells m = All (λ s. All (λ v. pos 1 ≤ℤ v) (s .control) × (length (s .control) ≡ 27)) (cells xs m)
 
   pub grid-clear : (m : ℕ) → PositiveGrid m → lowPoint xs m ≡ none
   unfolding lowPoint
@@ -97,23 +106,28 @@ module _ (xs : List ℤ) where
     pub within : l ≤ D
     pub earlier : (k : ℕ) → k < l → PositiveGrid k
     pub named : First (concatMap (cornersOf xs l) (cells xs l)) f
-    pub is-point : IsPoint l f
-    pub at-depth : (g : Finding) × IsPoint D g × (g .value ≤ℤ pos 0)
+    pub at-depth : LowAt D
 
   -- "Valid: every coefficient of every level-D cube is above 0. The level named is the least at which that holds."
   pub record ValidAt (D l : ℕ) : Type 0 where
     pub within : l ≤ D
-    pub earlier : (k : ℕ) → k < l → ¬ PositiveLevel xs k
-    pub named : PositiveLevel xs l
-    pub at-depth : PositiveLevel xs D
+    pub earlier : (k : ℕ) → k < l → ¬ PositiveCells k
+    pub named : PositiveCells l
+    pub at-depth : PositiveCells D
 
   -- "Undecided: neither. The cube named is the first of level D in path order with a coefficient ≤ 0, and in it the lowest-numbered such coefficient."
   pub record UndecidedAt (D l : ℕ) (f : Finding) : Type 0 where
     pub level : l ≡ D
     pub not-invalid : PositiveGrid D
-    pub not-valid : ¬ PositiveLevel xs D
+    pub not-valid : ¬ PositiveCells D
     pub named : First (concatMap coefficientsOf (cells xs D)) f
-    pub is-coefficient : IsCoefficient D f
+
+  -- what is named is a corner, or a coefficient, of a cell of its level
+  pub invalid-point : (D l : ℕ) (f : Finding) → InvalidAt D l f → IsPoint l f
+  invalid-point D l f h = first-has (IsPoint l) (concatMap (cornersOf xs l) (cells xs l)) f (h .named) (points l)
+
+  pub undecided-coefficient : (D l : ℕ) (f : Finding) → UndecidedAt D l f → IsCoefficient D f
+  undecided-coefficient D l f h = first-has (IsCoefficient D) (concatMap coefficientsOf (cells xs D)) f (h .named) (coefficients D)
 
   abbrev pub Means : ℕ → Verdict → Type 0
   Means D (valid l) = ValidAt D l
@@ -124,12 +138,15 @@ module _ (xs : List ℤ) where
   not-clear : (m : ℕ) (f : Finding) → lowCoefficient xs m ≡ some f → ¬ PositiveLevel xs m
   not-clear m f e h = some-not-none f (sym e ∙ positive-clear xs m h)
 
-  low-at : (D l : ℕ) → l ≤ D → (f : Finding) → lowPoint xs l ≡ some f → (g : Finding) × IsPoint D g × (g .value ≤ℤ pos 0)
+  low-at : (D l : ℕ) → l ≤ D → (f : Finding) → lowPoint xs l ≡ some f → LowAt D
   low-at D l h f e = go (lowPoint xs D) refl
     where
-      go : (o : Option Finding) → lowPoint xs D ≡ o → (g : Finding) × IsPoint D g × (g .value ≤ℤ pos 0)
+      go : (o : Option Finding) → lowPoint xs D ≡ o → LowAt D
       go none q = absurd (some-not-none f (sym e ∙ grid-clear l (positive-down xs l D h (clear-grid D q))))
-      go (some g) q = let r = point-first D g q in (g, first-has (IsPoint D) (concatMap (cornersOf xs D) (cells xs D)) g r (points D), r .low)
+      go (some g) q =
+          let r = point-first D g q in
+          let p = first-has (IsPoint D) (concatMap (cornersOf xs D) (cells xs D)) g r (points D) in
+          (g .a, g .b, g .c, p .on-grid, subst (λ (z : ℤ). z ≤ℤ pos 0) (p .value) (r .low))
 
   means-invalid : (D : ℕ) (f : Finding) → lowPoint xs (lastLevel xs D) ≡ some f → InvalidAt D (lastLevel xs D) f
   unfolding lastLevel
@@ -137,7 +154,6 @@ module _ (xs : List ℤ) where
     within = level-le (hasPoint xs) D;
     earlier = λ k h. clear-grid k (not-found (lowPoint xs k) (level-before (hasPoint xs) D k h));
     named = r;
-    is-point = first-has (IsPoint l) (concatMap (cornersOf xs l) (cells xs l)) f r (points l);
     at-depth = low-at D l (level-le (hasPoint xs) D) f e;
   }
 
@@ -152,7 +168,7 @@ module _ (xs : List ℤ) where
 
   means-undecided : (D : ℕ) (f : Finding) → lowPoint xs D ≡ none → lowCoefficient xs D ≡ some f → UndecidedAt D D f
   means-undecided D f e q = let r = coefficient-first D f q in
-      record { level = refl; not-invalid = clear-grid D e; not-valid = not-clear D f q; named = r; is-coefficient = first-has (IsCoefficient D) (concatMap coefficientsOf (cells xs D)) f r (coefficients D) }
+      record { level = refl; not-invalid = clear-grid D e; not-valid = not-clear D f q; named = r }
 
   pub means : (D : ℕ) → Means D (verdict xs D)
   means D = go (way xs D)
