@@ -11,3 +11,5 @@ pub mod Size
 pub mod Volumes
 pub mod Rule
 pub mod Control
+pub mod Rows
+pub mod RowLaws

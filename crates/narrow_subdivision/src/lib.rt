@@ -10,7 +10,7 @@ ghost use Rattle.foundation.specs.Words.{args, Within};
 ghost use Rattle.definitions.specs.Subdivision.{cutRow, halve};
 ghost use Rattle.expansion_theory.specs.Control.{Cuttable};
 ghost use Rattle.narrow_subdivision.specs.Word.{largest, cutLargest};
-ghost use Rattle.narrow_subdivision.specs.Rows.{putRow, Row, Holds};
+ghost use Rattle.expansion_theory.specs.Rows.{putRow, Row, Holds};
 
 // The half on side h of the row p, q, r, four times larger: its entry i.
 fn blend(p: i64, q: i64, r: i64, h: u32, i: usize) -> i64
@@ -61,8 +61,8 @@ fn half_row(
     out: &mut [i64; 27],
 )
     requires { ⌜ Row d j x y z ⌝ }
-    requires { ⌜ Holds d h j (now c) (now out) ⌝ }
-    ensures { λ _. ⌜ Holds d h (j + 1) (now (c .entry)) (now (out .exit)) ⌝ }
+    requires { ⌜ Holds cutLargest d h j (now c) (now out) ⌝ }
+    ensures { λ _. ⌜ Holds cutLargest d h (j + 1) (now (c .entry)) (now (out .exit)) ⌝ }
 {
     let p = c[x];
     let q = c[y];
@@ -73,8 +73,8 @@ fn half_row(
 // The half of c on side h in direction ξ, row by row. The numbers of each row are written out, here and below, so that the
 // compiler knows them.
 fn halve_xi(h: u32, c: &[i64; 27], out: &mut [i64; 27])
-    requires { ⌜ Holds 0 h 0 (now c) (now out) ⌝ }
-    ensures { λ _. ⌜ Holds 0 h 9 (now (c .entry)) (now (out .exit)) ⌝ }
+    requires { ⌜ Holds cutLargest 0 h 0 (now c) (now out) ⌝ }
+    ensures { λ _. ⌜ Holds cutLargest 0 h 9 (now (c .entry)) (now (out .exit)) ⌝ }
 {
     half_row(h, c, 0, 0, 0, 8, 1, out);
     half_row(h, c, 0, 1, 12, 21, 13, out);
@@ -89,8 +89,8 @@ fn halve_xi(h: u32, c: &[i64; 27], out: &mut [i64; 27])
 
 // The half of c on side h in direction η, row by row.
 fn halve_eta(h: u32, c: &[i64; 27], out: &mut [i64; 27])
-    requires { ⌜ Holds 1 h 0 (now c) (now out) ⌝ }
-    ensures { λ _. ⌜ Holds 1 h 9 (now (c .entry)) (now (out .exit)) ⌝ }
+    requires { ⌜ Holds cutLargest 1 h 0 (now c) (now out) ⌝ }
+    ensures { λ _. ⌜ Holds cutLargest 1 h 9 (now (c .entry)) (now (out .exit)) ⌝ }
 {
     half_row(h, c, 1, 0, 0, 11, 3, out);
     half_row(h, c, 1, 1, 12, 24, 15, out);
@@ -105,8 +105,8 @@ fn halve_eta(h: u32, c: &[i64; 27], out: &mut [i64; 27])
 
 // The half of c on side h in direction ζ, row by row.
 fn halve_zeta(h: u32, c: &[i64; 27], out: &mut [i64; 27])
-    requires { ⌜ Holds 2 h 0 (now c) (now out) ⌝ }
-    ensures { λ _. ⌜ Holds 2 h 9 (now (c .entry)) (now (out .exit)) ⌝ }
+    requires { ⌜ Holds cutLargest 2 h 0 (now c) (now out) ⌝ }
+    ensures { λ _. ⌜ Holds cutLargest 2 h 9 (now (c .entry)) (now (out .exit)) ⌝ }
 {
     half_row(h, c, 2, 0, 0, 12, 4, out);
     half_row(h, c, 2, 1, 11, 24, 19, out);

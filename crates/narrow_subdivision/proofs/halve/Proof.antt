@@ -1,14 +1,15 @@
 -- `halve` meets its contract: each branch hands its arguments to the function of its direction. Assumes nothing.
 use Prim.Native.Nat.{ℕ}
 use native.Mathlib.Omega.{arith}
-use Rattle.narrow_subdivision.specs.Rows.{Holds}
-use Rattle.narrow_subdivision.specs.RowLaws.{cut-within, none-held, all-held}
+use Rattle.expansion_theory.specs.Rows.{Holds}
+use Rattle.expansion_theory.specs.RowLaws.{cut-within, none-held, all-held}
+use Rattle.narrow_subdivision.specs.Word.{largest, cutLargest}
 use Rattle.narrow_subdivision.proofs.halve.Statement.{statement}
 use Rattle.narrow_subdivision.proofs.halve.Tie as tie
 
 module _ (s : tie.Start) (d : ℕ) where
-  ready : Holds d (s .args .h) 0 (s .args .c .now) (s .args .out .now)
-  ready = none-held d (s .args .h) (cut-within (s .args .c .now) (s .pre .0 .0)) (s .pre .1)
+  ready : Holds cutLargest d (s .args .h) 0 (s .args .c .now) (s .args .out .now)
+  ready = none-held d (s .args .h) (cut-within largest cutLargest (s .args .c .now) (λ n h. omega arith) (s .pre .0 .0)) (s .pre .1)
 
 halve-xi-requires : tie.Need-halve-xi-requires
 halve-xi-requires c κs = ready (c .before .before) 0

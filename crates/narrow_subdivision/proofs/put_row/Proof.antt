@@ -8,7 +8,7 @@ use mir.Facts.{toZ-ofZ}
 use Rattle.foundation.specs.Polynomial.{integers}
 use Rattle.foundation.specs.Words.{args}
 use Rattle.definitions.specs.Subdivision.{cutRow}
-use Rattle.narrow_subdivision.specs.Rows.{putRow}
+use Rattle.expansion_theory.specs.Rows.{putRow}
 use Rattle.narrow_subdivision.proofs.Read.{back, row-back}
 use borrow.Author.Needs.{needs}
 use Rattle.narrow_subdivision.proofs.put_row.Statement.{statement}

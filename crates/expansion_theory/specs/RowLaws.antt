@@ -13,10 +13,9 @@ use Rattle.foundation.specs.Polynomial.{integers}
 use Rattle.foundation.specs.Words.{args}
 use Rattle.definitions.specs.Coefficients.{numbering, numbered, place, at}
 use Rattle.definitions.specs.Subdivision.{lower, upper, cutRow, cut, halve}
 use Rattle.expansion_theory.specs.Cut.{length-halve}
 use Rattle.expansion_theory.specs.Control.{Control, Cuttable, within-more}
-use Rattle.narrow_subdivision.specs.Rows.{inRow, inLine, taken, takenRow, putRow, lineAt, Agrees, Holds, Row}
-use Rattle.narrow_subdivision.specs.Word.{largest, cutLargest}
+use Rattle.expansion_theory.specs.Rows.{inRow, inLine, taken, takenRow, putRow, lineAt, Agrees, Holds, Row}
 
 -- ---- two functions of numbers compared by computing, at the 27 coefficients of every direction
 everywhere : (f g : ℕ → ℕ → ℕ) → T (allBelow 81 (λ k. eqb (f (k / 27) (k % 27)) (g (k / 27) (k % 27)))) → (d x : ℕ) → d < 3 → x < 27 → f d x ≡ g d x
@@ -148,17 +147,17 @@ row-taken d h j c xs r = (λ i. putRow h (lineAt c (r .start i) (r .middle i) (r
     ∙ (λ i. set (set (set xs (inLine d (3 * j)) (entry-is d h c j 0 (3 * j) (r .direction) (r .number) (omega arith) (omega arith) i)) (inLine d (3 * j + 1)) (entry-is d h c j 1 (3 * j + 1) (r .direction) (r .number) (omega arith) refl i)) (inLine d (3 * j + 2)) (entry-is d h c j 2 (3 * j + 2) (r .direction) (r .number) (omega arith) refl i))
 
 -- before the first row
--- what can be cut
-pub cut-within : (c : List ℤ) → Cuttable largest c → Control cutLargest c
-cut-within c w = let l : w .bound ≤ cutLargest = omega (arith, w .room) in record { sized = w .control .sized; within = within-more (w .bound) cutLargest c l (w .control .within) }
+-- what can be cut is at most a quarter of the largest
+pub cut-within : (top quarter : ℕ) (c : List ℤ) → ((n : ℕ) → 4 * n ≤ top → n ≤ quarter) → Cuttable top c → Control quarter c
+cut-within top quarter c h w = record { sized = w .control .sized; within = within-more (w .bound) quarter c (h (w .bound) (w .room)) (w .control .within) }
 
-pub none-held : (d h : ℕ) {c xs : List ℤ} → Control cutLargest c → length xs ≡ 27 → Holds d h 0 c xs
+pub none-held : {b : ℕ} (d h : ℕ) {c xs : List ℤ} → Control b c → length xs ≡ 27 → Holds b d h 0 c xs
 none-held d h p s = record { control = p; sized = s; agrees = λ x k. absurd (omega arith) }
 
 -- one row more
-pub row-held : {d h j x y z : ℕ} {c xs ys : List ℤ} → Row d j x y z → Holds d h j c xs → ys ≡ putRow h (lineAt c x y z) x y z xs → Holds d h (j + 1) c ys
+pub row-held : {b d h j x y z : ℕ} {c xs ys : List ℤ} → Row d j x y z → Holds b d h j c xs → ys ≡ putRow h (lineAt c x y z) x y z xs → Holds b d h (j + 1) c ys
 row-held {d} {h} {j} {c = c} {xs} r p e = let (s, a) = agrees-row d (halve d h c) (r .direction) j xs (e ∙ row-taken d h j c xs r) (r .number) (p .sized) (p .agrees) in record { control = p .control; sized = s; agrees = a }
 
 -- after the last row: the direction d is n
-pub all-held : {d h : ℕ} (n : ℕ) {c xs : List ℤ} → n < 3 → d ≡ n → Holds n h 9 c xs → xs ≡ halve d h c
+pub all-held : {b d h : ℕ} (n : ℕ) {c xs : List ℤ} → n < 3 → d ≡ n → Holds b n h 9 c xs → xs ≡ halve d h c
 all-held {d} {h} n {c} {xs} l e p = agrees-all n (halve n h c) l xs (p .sized) (length-halve n h c) (p .agrees) ∙ ap (λ (m : ℕ). halve m h c) (sym e)

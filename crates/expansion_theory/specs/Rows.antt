@@ -8,8 +8,7 @@ use Rattle.foundation.specs.Polynomial.{integers}
 use Rattle.foundation.specs.Words.{args}
 use Rattle.definitions.specs.Coefficients.{numbers}
 use Rattle.definitions.specs.Subdivision.{rowAt, cutRow, halve}
 use Rattle.expansion_theory.specs.Control.{Control}
-use Rattle.narrow_subdivision.specs.Word.{cutLargest}
 
 -- the coefficient at t, 0 to 2, of the row in direction d whose places in the other two directions are u and v
 abbrev pub inRow : ℕ → ℕ → ℕ → ℕ → ℕ
@@ -41,9 +40,9 @@ lineAt c x y z = getD c x (pos 0) ∷ getD c y (pos 0) ∷ getD c z (pos 0) ∷ 
 abbrev pub Agrees : ℕ → List ℤ → ℕ → List ℤ → Type 0
 Agrees d half n xs = (x : ℕ) → x < n → getD xs (inLine d x) (pos 0) ≡ getD half (inLine d x) (pos 0)
 
--- xs holds the first j rows of the half of c on side h in direction d; and c is small enough to be cut
-pub record Holds (d h j : ℕ) (c xs : List ℤ) : Type 0 where
-  pub control : Control cutLargest c
+-- xs holds the first j rows of the half of c on side h in direction d, and the magnitudes of c are at most b
+pub record Holds (b d h j : ℕ) (c xs : List ℤ) : Type 0 where
+  pub control : Control b c
   pub sized : length xs ≡ 27
   pub agrees : Agrees d (halve d h c) (3 * j) xs
 
