@@ -8,28 +8,28 @@ use mir.Syntax.{w64}
 use mir.Val.{SFits, toZ, ofZ}
 use mir.Facts.{toZ-ofZ}
 use Rattle.foundation.specs.Magnitude.{magnitude-neg, magnitude-mul, magnitude-add}
-use Rattle.foundation.specs.Words.{sfits-below}
+use Rattle.foundation.specs.Words.{sfits-below, signedLimit}
 
 -- the bits b read as z, whose magnitude is at most n, and n is in range
 pub record Rep (b : ℕ) (z : ℤ) (n : ℕ) : Type 0 where
   pub value : toZ w64 b ≡ z
   pub magnitude : natAbs z ≤ n
-  pub room : n < 2 ^ 63
+  pub room : n < signedLimit
 
 -- a parameter, a field or an element, whose bits are those of z
-pub leaf : (n : ℕ) (z : ℤ) → natAbs z ≤ n → T (ltb n (2 ^ 63)) → Rep (ofZ w64 z) z n
-leaf n z h t = let k = ltb→lt n (2 ^ 63) t in record { value = toZ-ofZ (sfits-below z h k); magnitude = h; room = k }
+pub leaf : (n : ℕ) (z : ℤ) → natAbs z ≤ n → T (ltb n signedLimit) → Rep (ofZ w64 z) z n
+leaf n z h t = let k = ltb→lt n signedLimit t in record { value = toZ-ofZ (sfits-below z h k); magnitude = h; room = k }
 
 -- a larger bound will do
-pub weaken : {b m n : ℕ} {z : ℤ} → Rep b z m → m ≤ n → n < 2 ^ 63 → Rep b z n
+pub weaken : {b m n : ℕ} {z : ℤ} → Rep b z m → m ≤ n → n < signedLimit → Rep b z n
 weaken r h k = record { value = r .value; magnitude = le-trans (r .magnitude) h; room = k }
 
 module _ {b c m n : ℕ} {x y : ℤ} (u : Rep b x m) (v : Rep c y n) where
   -- ---- the result of any operation on two locals, given a bound on it
-  pub made-fits : (f : ℤ → ℤ → ℤ) (k : ℕ) → natAbs (f x y) ≤ k → k < 2 ^ 63 → SFits w64 (f (toZ w64 b) (toZ w64 c))
+  pub made-fits : (f : ℤ → ℤ → ℤ) (k : ℕ) → natAbs (f x y) ≤ k → k < signedLimit → SFits w64 (f (toZ w64 b) (toZ w64 c))
   made-fits f k h r = subst (SFits w64) (sym (ap₂ f (u .value) (v .value))) (sfits-below (f x y) h r)
 
-  pub made : (f : ℤ → ℤ → ℤ) (k : ℕ) → natAbs (f x y) ≤ k → k < 2 ^ 63 → Rep (ofZ w64 (f (toZ w64 b) (toZ w64 c))) (f x y) k
+  pub made : (f : ℤ → ℤ → ℤ) (k : ℕ) → natAbs (f x y) ≤ k → k < signedLimit → Rep (ofZ w64 (f (toZ w64 b) (toZ w64 c))) (f x y) k
   made f k h r = record { value = toZ-ofZ (made-fits f k h r) ∙ ap₂ f (u .value) (v .value); magnitude = h; room = r }
 
   -- ---- the three operations
@@ -42,27 +42,27 @@ module _ {b c m n : ℕ} {x y : ℤ} (u : Rep b x m) (v : Rep c y n) where
   sub-bound : natAbs (x -ℤ y) ≤ m + n
   sub-bound = le-trans (magnitude-add x (negℤ y)) (add-le-add (u .magnitude) (le-trans (le-of-eq (magnitude-neg y)) (v .magnitude)))
 
-  pub mul : T (ltb (m * n) (2 ^ 63)) → Rep (ofZ w64 (toZ w64 b *ℤ toZ w64 c)) (x *ℤ y) (m * n)
-  mul t = made _*ℤ_ (m * n) mul-bound (ltb→lt (m * n) (2 ^ 63) t)
+  pub mul : T (ltb (m * n) signedLimit) → Rep (ofZ w64 (toZ w64 b *ℤ toZ w64 c)) (x *ℤ y) (m * n)
+  mul t = made _*ℤ_ (m * n) mul-bound (ltb→lt (m * n) signedLimit t)
 
-  pub add : T (ltb (m + n) (2 ^ 63)) → Rep (ofZ w64 (toZ w64 b +ℤ toZ w64 c)) (x +ℤ y) (m + n)
-  add t = made _+ℤ_ (m + n) add-bound (ltb→lt (m + n) (2 ^ 63) t)
+  pub add : T (ltb (m + n) signedLimit) → Rep (ofZ w64 (toZ w64 b +ℤ toZ w64 c)) (x +ℤ y) (m + n)
+  add t = made _+ℤ_ (m + n) add-bound (ltb→lt (m + n) signedLimit t)
 
-  pub sub : T (ltb (m + n) (2 ^ 63)) → Rep (ofZ w64 (toZ w64 b -ℤ toZ w64 c)) (x -ℤ y) (m + n)
-  sub t = made _-ℤ_ (m + n) sub-bound (ltb→lt (m + n) (2 ^ 63) t)
+  pub sub : T (ltb (m + n) signedLimit) → Rep (ofZ w64 (toZ w64 b -ℤ toZ w64 c)) (x -ℤ y) (m + n)
+  sub t = made _-ℤ_ (m + n) sub-bound (ltb→lt (m + n) signedLimit t)
 
-  pub mul-fits : T (ltb (m * n) (2 ^ 63)) → SFits w64 (toZ w64 b *ℤ toZ w64 c)
-  mul-fits t = made-fits _*ℤ_ (m * n) mul-bound (ltb→lt (m * n) (2 ^ 63) t)
+  pub mul-fits : T (ltb (m * n) signedLimit) → SFits w64 (toZ w64 b *ℤ toZ w64 c)
+  mul-fits t = made-fits _*ℤ_ (m * n) mul-bound (ltb→lt (m * n) signedLimit t)
 
-  pub add-fits : T (ltb (m + n) (2 ^ 63)) → SFits w64 (toZ w64 b +ℤ toZ w64 c)
-  add-fits t = made-fits _+ℤ_ (m + n) add-bound (ltb→lt (m + n) (2 ^ 63) t)
+  pub add-fits : T (ltb (m + n) signedLimit) → SFits w64 (toZ w64 b +ℤ toZ w64 c)
+  add-fits t = made-fits _+ℤ_ (m + n) add-bound (ltb→lt (m + n) signedLimit t)
 
-  pub sub-fits : T (ltb (m + n) (2 ^ 63)) → SFits w64 (toZ w64 b -ℤ toZ w64 c)
-  sub-fits t = made-fits _-ℤ_ (m + n) sub-bound (ltb→lt (m + n) (2 ^ 63) t)
+  pub sub-fits : T (ltb (m + n) signedLimit) → SFits w64 (toZ w64 b -ℤ toZ w64 c)
+  sub-fits t = made-fits _-ℤ_ (m + n) sub-bound (ltb→lt (m + n) signedLimit t)
 
   -- ---- a sum under a bound that is proved, not computed
-  pub add-under : m + n < 2 ^ 63 → Rep (ofZ w64 (toZ w64 b +ℤ toZ w64 c)) (x +ℤ y) (m + n)
+  pub add-under : m + n < signedLimit → Rep (ofZ w64 (toZ w64 b +ℤ toZ w64 c)) (x +ℤ y) (m + n)
   add-under = made _+ℤ_ (m + n) add-bound
 
-  pub add-fits-under : m + n < 2 ^ 63 → SFits w64 (toZ w64 b +ℤ toZ w64 c)
+  pub add-fits-under : m + n < signedLimit → SFits w64 (toZ w64 b +ℤ toZ w64 c)
   add-fits-under = made-fits _+ℤ_ (m + n) add-bound

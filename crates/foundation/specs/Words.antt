@@ -17,6 +17,10 @@ use Rattle.foundation.specs.Lists.{All, all-getD-default}
 use Rattle.foundation.specs.Polynomial.{Expr, var, con, add, mul, neg, eval}
 use Rattle.foundation.specs.Bound.{bound, bound-is}
 
+-- a magnitude below this fits a word, signed
+abbrev pub signedLimit : ℕ
+signedLimit = 2 ^ 63
+
 pub data Op : Type 0 where
   arg : ℕ → Op
   lit : ℤ → Op
@@ -47,9 +51,9 @@ result ρ (plus a b) = held ρ a +ℤ held ρ b
 result ρ (minus a b) = held ρ a -ℤ held ρ b
 result ρ (times a b) = held ρ a *ℤ held ρ b
 
--- the bound of each part is below 2 ^ 63
+-- the bound of each part fits a word
 abbrev small : (ℕ → ℕ) → Op → Bool
-small β o = ltb (bound β (formula o)) (2 ^ 63)
+small β o = ltb (bound β (formula o)) signedLimit
 
 abbrev pub fits : (ℕ → ℕ) → Op → Bool
 fits β (arg i) = small β (arg i)
@@ -76,13 +80,13 @@ mag-small : (z : ℤ) → mag z ≤ natAbs z
 mag-small (pos n) = le-refl n
 mag-small (negsuc n) = le-suc n
 
--- what is below 2 ^ 63 in magnitude fits
-pub sfits-below : {n : ℕ} (z : ℤ) → natAbs z ≤ n → n < 2 ^ 63 → SFits w64 z
+-- what is below the limit in magnitude fits
+pub sfits-below : {n : ℕ} (z : ℤ) → natAbs z ≤ n → n < signedLimit → SFits w64 z
 sfits-below z h k = record { sfits = lt-of-le-of-lt (le-trans (mag-small z) h) k }
 
 module _ (ρ : ℕ → ℤ) (β : ℕ → ℕ) (h : (i : ℕ) → natAbs (ρ i) ≤ β i) where
   value-fits : (o : Op) → T (fits β o) → SFits w64 (eval ρ (formula o))
-  value-fits o t = sfits-below (eval ρ (formula o)) (bound-is ρ β h (formula o)) (ltb→lt (bound β (formula o)) (2 ^ 63) (fits-small β o t))
+  value-fits o t = sfits-below (eval ρ (formula o)) (bound-is ρ β h (formula o)) (ltb→lt (bound β (formula o)) signedLimit (fits-small β o t))
 
   -- an exact result is read back whole
   read : (o : Op) → (T (fits β o) → result ρ o ≡ eval ρ (formula o)) → T (fits β o) → held ρ o ≡ eval ρ (formula o)

@@ -9,7 +9,7 @@ use lib.Signed.{mag}
 use mir.Syntax.{w64}
 use mir.Val.{toZ, ofZ}
 use Rattle.foundation.specs.Polynomial.{integers}
-use Rattle.foundation.specs.Words.{Within}
+use Rattle.foundation.specs.Words.{Within, signedLimit}
 use Rattle.foundation.specs.Held.{Rep}
 use Rattle.definitions.specs.Jacobian.{nodesOf, det}
 use Rattle.definitions.specs.Coefficients.{edge, middle}
@@ -37,7 +37,7 @@ module _ {ux uy uz vx vy vz wx wy wz : ℕ} {u v w : ℕ → ℤ} (p : HeldVecto
   )
 
   -- the determinant of what the locals read is that of the vectors
-  pub det-read : {d : ℤ} → mag d < 2 ^ 63
+  pub det-read : {d : ℤ} → mag d < signedLimit
       → d ≡ det integers (vector (toZ w64 ux) (toZ w64 uy) (toZ w64 uz)) (vector (toZ w64 vx) (toZ w64 vy) (toZ w64 vz)) (vector (toZ w64 wx) (toZ w64 wy) (toZ w64 wz))
       → toZ w64 (ofZ w64 d) ≡ det integers u v w
   det-read ok e = read-back ok (e ∙ λ i. det integers

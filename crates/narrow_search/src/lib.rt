@@ -27,6 +27,9 @@ use limits::RECORD_WORDS;
 // many cells were opened.
 const PASS_WORDS: usize = 7;
 
+// The greatest number of a word.
+const GREATEST: i64 = 9223372036854775807;
+
 // The lowest number of a coefficient that is not above 0, from 1; 0 where there is none.
 fn lowest(g: &[i64; 27]) -> usize
     ensures { λ r. ⌜ (r ≡ lowestOf (now (g .entry))) × (r ≤ 27) ⌝ }
@@ -297,8 +300,8 @@ pub fn bounds(g: &[i64; 27], depth: u32) -> Extremes
         g,
         depth,
         Extremes {
-            low: 9223372036854775807,
-            high: 9223372036854775807,
+            low: GREATEST,
+            high: GREATEST,
         },
     )
 }

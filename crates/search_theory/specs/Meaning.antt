@@ -6,6 +6,7 @@ use Prim.Native.Nat.{ℕ, zero, suc, _+_, _*_, _^_, _<_, _≤_}
 use lib.ListN.{getD}
 use lib.IntN.{ℤ, pos}
 use lib.Signed.{leZ}
+use Rattle.foundation.specs.Words.{signedLimit}
 use Rattle.definitions.specs.Subdivision.{Cell}
 use Rattle.expansion_theory.specs.Control.{Control}
 use Rattle.verdict_theory.specs.Search.{Pass}
@@ -37,7 +38,7 @@ abbrev pub gridRoom : ℕ
 gridRoom = 2 ^ 31
 
 abbrev pub countRoom : ℕ
-countRoom = 2 ^ 63
+countRoom = signedLimit
 
 abbrev pub Grid : ℕ → ℕ → Type 0
 Grid x left = (x + 1) * 2 ^ left ≤ gridRoom

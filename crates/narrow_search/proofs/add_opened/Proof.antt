@@ -9,14 +9,14 @@ use mir.Val.{toZ, ofZ, SFits}
 use mir.ValLaws.{toZ-ofZ, toZ-pos}
 use denote.Ref.{now}
 use borrow.Author.Needs.{needs}
-use Rattle.foundation.specs.Words.{sfits-below}
+use Rattle.foundation.specs.Words.{sfits-below, signedLimit}
 use Rattle.narrow_search.proofs.Passes.{count-word, count-put}
 use Rattle.narrow_search.proofs.add_opened.Statement.{statement}
 use Rattle.narrow_search.proofs.add_opened.Tie as tie
 
 -- what is added
 sum-is : (c : tie.After-count) → toZ w64 (ofZ w64 (getD (now (c .before .args .pass)) 6 (pos 0))) +ℤ toZ w64 (c .before .args .n) ≡ getD (now (c .before .args .pass)) 6 (pos 0) +ℤ pos (c .before .args .n)
-sum-is c = let n : c .before .args .n < 2 ^ 63 = omega arith in
+sum-is c = let n : c .before .args .n < signedLimit = omega arith in
     ap₂ _+ℤ_ (toZ-ofZ w64 (getD (now (c .before .args .pass)) 6 (pos 0)) (record { sfits = c .count .given })) (toZ-pos w64 (c .before .args .n) n)
 
 element-copy-out-count : tie.Need-element-copy-out-count

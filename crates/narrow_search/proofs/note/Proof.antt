@@ -7,6 +7,7 @@ use mir.Syntax.{w64}
 use mir.ValLaws.{toZ-ofZ, toZ-pos}
 use denote.Ref.{now}
 use borrow.Author.Needs.{needs}
+use Rattle.foundation.specs.Words.{signedLimit}
 use Rattle.narrow_search.proofs.Passes.{noted}
 use Rattle.narrow_search.proofs.note.Statement.{statement}
 use Rattle.narrow_search.proofs.note.Tie as tie
@@ -48,11 +49,11 @@ returns : tie.Need-returns
 returns c p e =
     let s = c .args in
     let ws = now (s .pass) in
-    let k : s .kind < 2 ^ 63 = omega arith in
-    let a : s .a < 2 ^ 63 = omega arith in
-    let b : s .b < 2 ^ 63 = omega arith in
-    let z : s .c < 2 ^ 63 = omega arith in
-    let n : s .number < 2 ^ 63 = omega arith in
+    let k : s .kind < signedLimit = omega arith in
+    let a : s .a < signedLimit = omega arith in
+    let b : s .b < signedLimit = omega arith in
+    let z : s .c < signedLimit = omega arith in
+    let n : s .number < signedLimit = omega arith in
     let value = toZ-ofZ w64 (s .value) (c .fits .value) in
     (λ i. set (set (set (set (set (set ws 0 (toZ-pos w64 (s .kind) k i)) 1 (toZ-pos w64 (s .a) a i)) 2 (toZ-pos w64 (s .b) b i)) 3 (toZ-pos w64 (s .c) z i)) 4 (toZ-pos w64 (s .number) n i)) 5 (value i))
     ∙ noted ws p (s .kind) (s .a) (s .b) (s .c) (s .number) (s .value) e

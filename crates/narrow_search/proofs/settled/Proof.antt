@@ -9,6 +9,7 @@ use mir.Syntax.{w64}
 use mir.ValLaws.{toZ-ofZ, toZ-pos}
 use denote.Ref.{now}
 use borrow.Author.Needs.{needs}
+use Rattle.foundation.specs.Words.{signedLimit}
 use Rattle.narrow_search.proofs.Passes.{settled-words}
 use Rattle.narrow_search.proofs.settled.Statement.{statement}
 use Rattle.narrow_search.proofs.settled.Tie as tie
@@ -47,17 +48,17 @@ returns c p e =
     let kind = x .before in
     let s = kind .before in
     let ws = now (s .args .pass) in
-    let l : s .args .level < 2 ^ 63 = omega arith in
+    let l : s .args .level < signedLimit = omega arith in
     (λ i.
-        toZ-ofZ w64 (getD ws 0 (pos 0)) (record { sfits = kind .kind .given }) i
-        ∷ toZ-pos w64 (s .args .level) l i
-        ∷ toZ-ofZ w64 (getD ws 1 (pos 0)) (record { sfits = x .a .given }) i
-        ∷ toZ-ofZ w64 (getD ws 2 (pos 0)) (record { sfits = y .b .given }) i
-        ∷ toZ-ofZ w64 (getD ws 3 (pos 0)) (record { sfits = z .c .given }) i
-        ∷ toZ-ofZ w64 (getD ws 4 (pos 0)) (record { sfits = number .number .given }) i
-        ∷ toZ-ofZ w64 (getD ws 5 (pos 0)) (record { sfits = value .value .given }) i
-        ∷ toZ-ofZ w64 (getD ws 6 (pos 0)) (record { sfits = c .count .given }) i
-        ∷ [])
+    toZ-ofZ w64 (getD ws 0 (pos 0)) (record { sfits = kind .kind .given }) i
+    ∷ toZ-pos w64 (s .args .level) l i
+    ∷ toZ-ofZ w64 (getD ws 1 (pos 0)) (record { sfits = x .a .given }) i
+    ∷ toZ-ofZ w64 (getD ws 2 (pos 0)) (record { sfits = y .b .given }) i
+    ∷ toZ-ofZ w64 (getD ws 3 (pos 0)) (record { sfits = z .c .given }) i
+    ∷ toZ-ofZ w64 (getD ws 4 (pos 0)) (record { sfits = number .number .given }) i
+    ∷ toZ-ofZ w64 (getD ws 5 (pos 0)) (record { sfits = value .value .given }) i
+    ∷ toZ-ofZ w64 (getD ws 6 (pos 0)) (record { sfits = c .count .given }) i
+    ∷ [])
     ∙ settled-words ws p (s .args .level) e
 
 pub settled-spec : {M : Type 1} → statement M

@@ -9,6 +9,7 @@ use lib.IntN.{ℤ}
 use lib.Signed.{mag}
 use mir.Syntax.{w64}
 use mir.Val.{toZ, ofZ}
+use Rattle.foundation.specs.Words.{signedLimit}
 use Rattle.foundation.specs.Polynomial.{integers}
 use Rattle.definitions.specs.Jacobian.{nodesOf}
 use Rattle.definitions.specs.Coefficients.{cornerVolume, edgeVolume, cornerTetrahedra, edgeTetrahedra}
@@ -25,10 +26,10 @@ middle xs k = edgeVolume integers (nodesOf xs) (getD edgeTetrahedra k [])
 
 -- what a call for each is read back as
 module _ (xs : List ℤ) (k : ℕ) {r : ℤ} where
-  corner-read : mag r < 2 ^ 63 → r ≡ corner xs k → toZ w64 (ofZ w64 r) ≡ corner xs k
+  corner-read : mag r < signedLimit → r ≡ corner xs k → toZ w64 (ofZ w64 r) ≡ corner xs k
   corner-read = read-back
 
-  middle-read : mag r < 2 ^ 63 → r ≡ middle xs k → toZ w64 (ofZ w64 r) ≡ middle xs k
+  middle-read : mag r < signedLimit → r ≡ middle xs k → toZ w64 (ofZ w64 r) ≡ middle xs k
   middle-read = read-back
 
 -- the function's entry, seen after the fourth edge
