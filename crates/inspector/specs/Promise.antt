@@ -6,18 +6,20 @@ use mathlib.Core.Option.{none}
 use Prim.Native.Nat.{ℕ, zero, suc, _+_, _*_, _-_, _/_, _<_, _≤_, _^_}
 use native.Mathlib.Omega.{arith}
 use lib.ListN.{length, take, drop}
+use lib.Seq.{take-all}
 use lib.IntN.{ℤ, pos, _*ℤ_}
 use lib.Signed.{_≤ℤ_, _<ℤ_}
-use Rattle.definitions.specs.Limits.{Limits}
+use Rattle.definitions.specs.Limits.{Limits, base}
 use Rattle.definitions.specs.Jacobian.{jacobian}
 use Rattle.definitions.specs.Bounds.{low, high}
 use Rattle.definitions.specs.Record.{recordOf}
 use Rattle.definitions.specs.Mesh.{refusal, pointsOf, outOfRange, faultOf, elementRecord, reportAfter, bounds, boundsOf}
 use Rattle.verdict_theory.specs.DepthMonotone.{first, DepthMonotone, depth-monotone}
-use Rattle.verdict_theory.specs.Elements.{element-points}
+use Rattle.verdict_theory.specs.Elements.{element-points, report-length}
 use Rattle.mesh_checks.specs.Elements.{accepted-mesh, whole-element}
 use Rattle.inspector.specs.Reports.{report-part}
 use Rattle.inspector.specs.Answers.{refusalHere, accepted-space, bounds-inside}
+use Rattle.inspector.specs.Own.{inOrder, own-points, own-element, own-mesh}
 
 -- A mesh as a caller hands it in, with its report space.
 pub record Mesh : Type 0 where
@@ -64,7 +66,7 @@ bounds-kept L xs D D′ l deep inside = let look = depth-monotone xs D D′ l in
 -- Two looks at the same points, the first no deeper: in meshes m and m′, and by the bounds service.
 pub record Kept (L : Limits) (xs : List ℤ) (m : Mesh) (e : ℕ) (m′ : Mesh) (e′ : ℕ) : Type 0 where
   pub same : (first (wordsOf L m e) ≡ pos 0) ⊎ (first (wordsOf L m e) ≡ pos 1) → wordsOf L m′ e′ ≡ wordsOf L m e
-  pub positive : first (wordsOf L m e) ≡ pos 0 → (M a b c : ℕ) → a ≤ 2 ^ M → b ≤ 2 ^ M → c ≤ 2 ^ M → pos 0 <ℤ jacobian xs M a b c
+  pub positive : (first (wordsOf L m e) ≡ pos 0) ⊎ (first (wordsOf L m′ e′) ≡ pos 0) → (M a b c : ℕ) → a ≤ 2 ^ M → b ≤ 2 ^ M → c ≤ 2 ^ M → pos 0 <ℤ jacobian xs M a b c
   pub both-bounds : BoundsKept L xs (m .depth) (m′ .depth)
 
 pub kept : (L : Limits) (xs : List ℤ) (m : Mesh) (e : ℕ) (m′ : Mesh) (e′ : ℕ) → Stands L m e xs → Stands L m′ e′ xs → m .depth ≤ m′ .depth → Kept L xs m e m′ e′
@@ -74,7 +76,7 @@ kept L xs m e m′ e′ h h′ l =
     let w′ = words-are L m′ e′ xs h′ in
     record {
       same = λ s. w′ ∙ look .same (settled s w) ∙ sym w;
-      positive = λ s. look .positive (inl (ap first (sym w) ∙ s));
+      positive = λ s. look .positive (either s w w′);
       both-bounds = bounds-kept L xs (m .depth) (m′ .depth) l deep inside;
     }
   where
@@ -82,8 +84,59 @@ kept L xs m e m′ e′ h h′ l =
     settled (inl s) w = inl (ap first (sym w) ∙ s)
     settled (inr s) w = inr (ap first (sym w) ∙ s)
 
+    either : (first (wordsOf L m e) ≡ pos 0) ⊎ (first (wordsOf L m′ e′) ≡ pos 0) → wordsOf L m e ≡ recordOf xs (m .depth) → wordsOf L m′ e′ ≡ recordOf xs (m′ .depth) → (first (recordOf xs (m .depth)) ≡ pos 0) ⊎ (first (recordOf xs (m′ .depth)) ≡ pos 0)
+    either (inl s) w w′ = inl (ap first (sym w) ∙ s)
+    either (inr s) w w′ = inr (ap first (sym w′) ∙ s)
+
     deep : m′ .depth ≤ L .depth
     deep = accepted-mesh L (length (m′ .coordinates)) (length (m′ .indices)) (length (m′ .space)) (m′ .depth) (h′ .is-accepted) .depth
 
     inside : outOfRange L xs ≡ none
     inside = ap (outOfRange L) (sym (h .points)) ∙ whole-element L (m .coordinates) (indicesOf m e) (h .not-refused) .points
+
+-- ---- from the points and two depths alone
+-- Eight points as a mesh of their own: eight nodes, and one element that names them in order.
+abbrev pub ownMesh : List ℤ → List ℤ → ℕ → Mesh
+ownMesh xs space D = record { coordinates = xs; indices = inOrder; space = space; depth = D }
+
+-- Any eight points within the limits stand in it, at every depth within the limits and in any space for one record.
+pub own-stands : (L : Limits) → 8 ≤ L .nodes → 1 ≤ L .elements → (xs space : List ℤ) (D : ℕ) → length xs ≡ 24 → outOfRange L xs ≡ none → D ≤ L .depth → length space ≡ L .words → Stands L (ownMesh xs space D) 0 xs
+own-stands L nodes elements xs space D n inside deep room = record {
+  is-accepted = own-mesh xs n L (length space) D deep nodes elements room;
+  is-element = omega arith;
+  not-refused = own-element xs n L inside;
+  points = own-points xs n;
+}
+
+-- what an inspection of that mesh writes: the one record
+abbrev pub written : Limits → List ℤ → List ℤ → ℕ → List ℤ
+written L xs space D = reportAfter L xs inOrder space D
+
+own-words : (L : Limits) (xs space : List ℤ) (D : ℕ) → Stands L (ownMesh xs space D) 0 xs → wordsOf L (ownMesh xs space D) 0 ≡ written L xs space D
+own-words L xs space D h = take-all 8 (written L xs space D) (omega (arith, ap length (accepted-space L xs inOrder space D (h .is-accepted)) ∙ report-length L xs inOrder D))
+
+-- Promise 3 for any 24 coordinates within the limits and two depths, the first no greater: `inspect` of their own mesh at both, and `bounds_of`.
+pub record PointsKept (L : Limits) (xs space space′ : List ℤ) (D D′ : ℕ) : Type 0 where
+  pub same : (first (written L xs space D) ≡ pos 0) ⊎ (first (written L xs space D) ≡ pos 1) → written L xs space′ D′ ≡ written L xs space D
+  pub positive : (first (written L xs space D) ≡ pos 0) ⊎ (first (written L xs space′ D′) ≡ pos 0) → (M a b c : ℕ) → a ≤ 2 ^ M → b ≤ 2 ^ M → c ≤ 2 ^ M → pos 0 <ℤ jacobian xs M a b c
+  pub both-bounds : BoundsKept L xs D D′
+
+pub points-kept : (L : Limits) → 8 ≤ L .nodes → 1 ≤ L .elements → (xs space space′ : List ℤ) (D D′ : ℕ) → length xs ≡ 24 → outOfRange L xs ≡ none → D ≤ D′ → D′ ≤ L .depth
+    → length space ≡ L .words → length space′ ≡ L .words → PointsKept L xs space space′ D D′
+points-kept L nodes elements xs space space′ D D′ n inside l deep room room′ =
+    let m = ownMesh xs space D in
+    let m′ = ownMesh xs space′ D′ in
+    let stands = own-stands L nodes elements xs space D n inside (omega arith) room in
+    let stands′ = own-stands L nodes elements xs space′ D′ n inside deep room′ in
+    let look = kept L xs m 0 m′ 0 stands stands′ l in
+    let w = own-words L xs space D stands in
+    let w′ = own-words L xs space′ D′ stands′ in
+    record {
+      same = subst (λ (r : List ℤ × List ℤ). (first (r .0) ≡ pos 0) ⊎ (first (r .0) ≡ pos 1) → r .1 ≡ r .0) (λ i. (w i, w′ i)) (look .same);
+      positive = subst (λ (r : List ℤ × List ℤ). (first (r .0) ≡ pos 0) ⊎ (first (r .1) ≡ pos 0) → (M a b c : ℕ) → a ≤ 2 ^ M → b ≤ 2 ^ M → c ≤ 2 ^ M → pos 0 <ℤ jacobian xs M a b c) (λ i. (w i, w′ i)) (look .positive);
+      both-bounds = look .both-bounds;
+    }
+
+-- At the limits of document 01: nothing is left to assume but the points, the two depths and space for one record.
+pub points-kept-base : (xs space space′ : List ℤ) (D D′ : ℕ) → length xs ≡ 24 → outOfRange base xs ≡ none → D ≤ D′ → D′ ≤ base .depth → length space ≡ base .words → length space′ ≡ base .words → PointsKept base xs space space′ D D′
+points-kept-base = points-kept base (omega arith) (omega arith)
