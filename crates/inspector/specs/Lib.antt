@@ -1,4 +1,5 @@
 pub mod Meaning
+pub mod Kinds
 pub mod Reports
 pub mod Answers
 pub mod Own

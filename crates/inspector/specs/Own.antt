@@ -10,10 +10,12 @@ use lib.Dec.{eqb, leb}
 use lib.ListN.{getD, length}
 use lib.Seq.{ext-getD}
 use lib.IntN.{ℤ, pos}
-use Rattle.foundation.specs.Lists.{equal-below, tabulate-at}
+use Rattle.foundation.specs.Lists.{equal-below}
 use Rattle.definitions.specs.Limits.{Limits}
 use Rattle.definitions.specs.Mesh.{wellSized, refusal, missingIndex, namedTwice, pointsOf, outOfRange, faultOf}
-use Rattle.mesh_checks.specs.Elements.{refusal-by, refusalBy, length-points, fault-none}
+use Rattle.mesh_checks.specs.Refusals.{refusal-by, refusalBy}
+use Rattle.mesh_points.specs.Points.{length-points, point-at}
+use Rattle.mesh_elements.specs.Elements.{fault-none}
 
 abbrev pub inOrder : List ℕ
 inOrder = 0 ∷ 1 ∷ 2 ∷ 3 ∷ 4 ∷ 5 ∷ 6 ∷ 7 ∷ []
@@ -24,9 +26,8 @@ in-order = equal-below (λ k. 3 * getD inOrder (k / 3) 0 + k % 3) (λ k. k) 24 t
 
 module _ (xs : List ℤ) (n : length xs ≡ 24) where
   pub own-points : pointsOf xs inOrder ≡ xs
-  unfolding pointsOf
-  own-points = ext-getD (pos 0) (pointsOf xs inOrder) xs (length-points xs inOrder ∙ sym n)
-      (λ k h. tabulate-at (λ k. getD xs (3 * getD inOrder (k / 3) 0 + k % 3) (pos 0)) 24 k (pos 0) h ∙ ap (λ (i : ℕ). getD xs i (pos 0)) (in-order k h))
+  own-points = let sized = length-points xs inOrder in
+      ext-getD (pos 0) (pointsOf xs inOrder) xs (sized ∙ sym n) (λ k h. point-at xs inOrder k (omega arith) ∙ ap (λ (i : ℕ). getD xs i (pos 0)) (in-order k (omega arith)))
 
   named : missingIndex (length xs / 3) inOrder ≡ none
   unfolding missingIndex

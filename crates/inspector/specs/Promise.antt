@@ -16,7 +16,8 @@ use Rattle.definitions.specs.Record.{recordOf}
 use Rattle.definitions.specs.Mesh.{refusal, pointsOf, outOfRange, faultOf, elementRecord, reportAfter, bounds, boundsOf}
 use Rattle.verdict_theory.specs.DepthMonotone.{first, DepthMonotone, depth-monotone}
 use Rattle.verdict_theory.specs.Elements.{element-points, report-length}
-use Rattle.mesh_checks.specs.Elements.{accepted-mesh, whole-element}
+use Rattle.mesh_checks.specs.Refusals.{accepted-mesh}
+use Rattle.mesh_elements.specs.Elements.{whole-element}
 use Rattle.inspector.specs.Reports.{report-part}
 use Rattle.inspector.specs.Answers.{refusalHere, accepted-space, bounds-inside}
 use Rattle.inspector.specs.Own.{inOrder, own-points, own-element, own-mesh}

@@ -10,7 +10,7 @@ use Rattle.foundation.specs.Lists.{All, all-tabulate, concatMap, concatMap-appe
 use Rattle.definitions.specs.Limits.{Limits}
 use Rattle.definitions.specs.Mesh.{elementRecord, records, report, Counts, counted, countsOf}
 use Rattle.verdict_theory.specs.Elements.{element-length, concat-length, countsTotal, counts-total}
-use Rattle.mesh_checks.specs.Report.{put-next}
+use Rattle.mesh_report.specs.Report.{put-next}
 
 -- ---- one more at the end
 tabulate-last : {A : Type 0} (f : ℕ → A) (i n : ℕ) → tabulate f i (n + 1) ≡ tabulate f i n ++ (f (i + n) ∷ [])

@@ -13,8 +13,8 @@ use borrow.Author.Needs.{needs}
 use Rattle.definitions.specs.Limits.{base}
 use Rattle.definitions.specs.Mesh.{elementRecord, counted, countsOf}
 use Rattle.verdict_theory.specs.Elements.{countsTotal}
-use Rattle.mesh_checks.specs.Report.{kind-natural}
-use Rattle.mesh_checks.specs.Meaning.{countsHeld}
+use Rattle.inspector.specs.Kinds.{kind-natural}
+use Rattle.inspector.specs.Meaning.{countsHeld}
 use Rattle.inspector.specs.Reports.{recordAt, firstRecords, spaceAt, space-length, counts-next, space-last, counts-last-of, part-of, part-length, natural-by, counted-so-far, put-record}
 use Rattle.inspector.proofs.write_records.Statement.{statement}
 use Rattle.inspector.proofs.write_records.Tie as tie
