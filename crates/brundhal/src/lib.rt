@@ -20,11 +20,11 @@ ghost use Rattle.brundhal.specs.Meaning.{ShortAnswer, writtenNumbersHeld
 use cell_address::Address;
 use cell_address::Moved;
 use inspector::Bounds;
+use inspector::Counts;
 use inspector::Inspection;
 use inspector::Stamp;
 use lot_writer::Unwritable;
 use lot_writer::Written;
-use mesh_checks::Counts;
 
 // The number that answers an inspection, 0 or 1 to 4, and the four counts.
 #[repr(C)]

@@ -1,26 +1,35 @@
--- The coefficients of eight points in range: what a search starts from. They are as small as it asks.
+-- Eight points within the limits: one word holds their coefficients, at every level within the limits, and the search in one word may be used.
 use mathlib.Core.Path.{_≡_, sym, _∙_, ap, subst}
 use mathlib.Core.List.{List}
-use Prim.Native.Nat.{ℕ, _≤_}
-use lib.ListN.{getD, length}
-use lib.IntN.{ℤ, pos, natAbs}
+use Prim.Native.Nat.{ℕ, _*_, _^_, _≤_}
+use native.Mathlib.Nat.{le-trans, mul-le-mul-left, pow-le-pow-right, zero-lt-suc}
+use native.Mathlib.Omega.{arith}
+use lib.ListN.{length}
+use lib.IntN.{ℤ}
 use Rattle.foundation.specs.Words.{Within}
 use Rattle.definitions.specs.Limits.{base}
 use Rattle.definitions.specs.Coefficients.{coefficients}
 use Rattle.definitions.specs.Subdivision.{whole}
 use Rattle.expansion_theory.specs.Expansion.{length-coefficients}
 use Rattle.expansion_theory.specs.Size.{whole-size}
-use Rattle.expansion_theory.specs.Control.{Control}
-use Rattle.narrow_search.specs.Meaning.{size}
+use Rattle.search_theory.specs.Meaning.{Small}
+use Rattle.narrow_subdivision.specs.Word.{largest}
+use Rattle.narrow_coefficients.specs.Range.{narrowRange, InRange}
 
-pub record OfPoints (g : List ℤ) : Type 0 where
-  pub points : List ℤ
-  pub inside : (i : ℕ) → natAbs (getD points i (pos 0)) ≤ base .range
-  pub expanded : g ≡ coefficients points
+-- the largest magnitude of a coefficient of the whole
+abbrev size : ℕ
+size = 384 * base .range ^ 3
 
-within : (g : List ℤ) → OfPoints g → Within (size 0) g
+pub narrow-points : (xs : List ℤ) → InRange (base .range) xs → InRange narrowRange xs
+narrow-points xs h = record { small = λ i. let l : base .range ≤ narrowRange = omega arith in le-trans (h .small i) l }
+
+within : (xs : List ℤ) → InRange (base .range) xs → Within size (coefficients xs)
 unfolding whole
-within g h = subst (Within (size 0)) (sym (h .expanded)) (whole-size (h .points) (base .range) (h .inside))
+within xs h = whole-size xs (base .range) (h .small)
 
-pub points-control : (g : List ℤ) → OfPoints g → Control (size 0) g
-points-control g h = record { sized = ap length (h .expanded) ∙ length-coefficients (h .points); within = within g h }
+pub points-small : (xs g : List ℤ) (depth : ℕ) → InRange (base .range) xs → depth ≤ base .depth → g ≡ coefficients xs → Small largest g depth
+points-small xs g depth h l e = record {
+  bound = size;
+  control = record { sized = ap length e ∙ length-coefficients xs; within = subst (Within size) (sym e) (within xs h) };
+  small = let most : size * 64 ^ base .depth ≤ largest = omega arith in le-trans (mul-le-mul-left size (pow-le-pow-right (zero-lt-suc 63) l)) most;
+}

@@ -12,7 +12,7 @@ use Rattle.definitions.specs.Record.{kindWord}
 use Rattle.definitions.specs.Mesh.{elementRecord, records, report, countsOf}
 use Rattle.verdict_theory.specs.Kinds.{HasKind, counted, counts-last, countsTotal, counts-total}
 use Rattle.verdict_theory.specs.Elements.{element-length, element-kind, concat-length}
-use Rattle.mesh_checks.specs.Report.{put-next}
+use Rattle.mesh_report.specs.Report.{put-next}
 
 -- ---- one more at the end
 tabulate-last : {A : Type 0} (f : ℕ → A) (i n : ℕ) → tabulate f i (n + 1) ≡ tabulate f i n ++ (f (i + n) ∷ [])
@@ -73,9 +73,6 @@ part-of indices e = let p : 8 * e + 8 - 8 * e ≡ 8 = omega arith in ap (λ (n :
 
 pub part-length : (indices : List ℕ) (e : ℕ) → e < length indices / 8 → length (take (8 * e + 8 - 8 * e) (drop (8 * e) indices)) ≡ 8
 part-length indices e h = ap length (part-of indices e) ∙ length-take-le 8 (drop (8 * e) indices) (simp length-drop (omega arith))
-
-pub natural-by : (x y : ℤ) → x ≡ y → y ≡ pos (natAbs y) → x ≡ pos (natAbs x)
-natural-by x y e h = subst (λ (z : ℤ). z ≡ pos (natAbs z)) (sym e) h
 
 module _ (L : Limits) (coordinates : List ℤ) (indices : List ℕ) (D : ℕ) where
   -- as many are counted as are written

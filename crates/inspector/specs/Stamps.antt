@@ -36,29 +36,29 @@ stampOfRecords rs = stampBy (ltb 0 (length rs) && every isValid rs) (any isFault
 
 -- ---- the counts tell of all records what their words 0 tell
 -- none but valid ones are counted
-abbrev none : ℕ → ℕ → ℕ → Bool
-none i u r = eqb i 0 && eqb u 0 && eqb r 0
+abbrev allZero : ℕ → ℕ → ℕ → Bool
+allZero i u r = eqb i 0 && eqb u 0 && eqb r 0
 
 abbrev noOther : Counts → Bool
-noOther n = none (n .invalid) (n .undecided) (n .refused)
+noOther n = allZero (n .invalid) (n .undecided) (n .refused)
 
 not-none : (n : ℕ) → eqb (n + 1) 0 ≡ false
 not-none n = ne-eqb (n + 1) 0 (λ e. omega arith)
 
-first-one : (i u r : ℕ) → none (i + 1) u r ≡ false
+first-one : (i u r : ℕ) → allZero (i + 1) u r ≡ false
 first-one i u r = ap (λ (b : Bool). b && eqb u 0 && eqb r 0) (not-none i)
 
-second-one : (i u r : ℕ) → none i (u + 1) r ≡ false
+second-one : (i u r : ℕ) → allZero i (u + 1) r ≡ false
 second-one i u r = ap (λ (b : Bool). eqb i 0 && b && eqb r 0) (not-none u) ∙ ap (λ (b : Bool). b && eqb r 0) (and-false (eqb i 0))
 
-third-one : (i u r : ℕ) → none i u (r + 1) ≡ false
+third-one : (i u r : ℕ) → allZero i u (r + 1) ≡ false
 third-one i u r = ap (λ (b : Bool). eqb i 0 && eqb u 0 && b) (not-none r) ∙ and-false (eqb i 0 && eqb u 0)
 
 add-zero : (n : ℕ) → n ≡ n + 0
 add-zero n = omega arith
 
 valid-counted : (z : ℤ) (n : Counts) → Kind z → (isNumber 0 z && noOther n) ≡ noOther (counted z n)
-valid-counted z n (kind0 e) = subst (λ (y : ℤ). (isNumber 0 y && noOther n) ≡ noOther (counted y n)) (sym e) (λ i. none (add-zero (n .invalid) i) (add-zero (n .undecided) i) (add-zero (n .refused) i))
+valid-counted z n (kind0 e) = subst (λ (y : ℤ). (isNumber 0 y && noOther n) ≡ noOther (counted y n)) (sym e) (λ i. allZero (add-zero (n .invalid) i) (add-zero (n .undecided) i) (add-zero (n .refused) i))
 valid-counted z n (kind1 e) = subst (λ (y : ℤ). (isNumber 0 y && noOther n) ≡ noOther (counted y n)) (sym e) (sym (first-one (n .invalid) (n .undecided + 0) (n .refused + 0)))
 valid-counted z n (kind2 e) = subst (λ (y : ℤ). (isNumber 0 y && noOther n) ≡ noOther (counted y n)) (sym e) (sym (second-one (n .invalid + 0) (n .undecided) (n .refused + 0)))
 valid-counted z n (kind5 e) = subst (λ (y : ℤ). (isNumber 0 y && noOther n) ≡ noOther (counted y n)) (sym e) (sym (third-one (n .invalid + 0) (n .undecided + 0) (n .refused)))

@@ -3,22 +3,33 @@
 //   inspect   the records of a mesh's elements, into lent report space, with four counts; or the number that refuses the mesh
 //   bounds_of the low and the high bound of eight points at a depth; or the number that refuses them
 //   stamp_of  the stamp of an accepted mesh, by its counts
-// The moves of cell addresses are in the crate `address`.
+// The moves of cell addresses are in the crate `cell_address`.
 ghost use mathlib.Core.Path.{_≡_};
-ghost use Prim.Native.Nat.{_*_, _/_, _%_, _≤_};
+ghost use mathlib.Core.Bool.{true};
+ghost use Prim.Native.Nat.{_-_, _*_, _/_, _%_, _^_, _<_, _≤_};
 ghost use lib.ListN.{length};
-ghost use Rattle.definitions.specs.Limits.{base};
+ghost use Rattle.definitions.specs.Limits.{base, recordWords};
 ghost use Rattle.definitions.specs.Record.{recordOf};
 ghost use Rattle.definitions.specs.Mesh.{elementRecord, records, report as reportOf, countsOf, inspection, reportAfter, stampOf, boundsOf};
+ghost use Rattle.verdict_theory.specs.Kinds.{isKind, counted, countsTotal};
 ghost use Rattle.narrow_coefficients.specs.Range.{InRange};
-ghost use Rattle.mesh_checks.specs.Meaning.{countsHeld};
-ghost use Rattle.narrow_search.specs.Bounds.{extremesOf, boundsAt};
-ghost use Rattle.inspector.specs.Meaning.{inspectionHeld, stampHeld, boundsHeld};
+ghost use Rattle.search_theory.specs.Bounds.{boundsAt};
+ghost use Rattle.narrow_search.specs.Meaning.{extremesOf};
+ghost use Rattle.inspector.specs.Meaning.{countsHeld, inspectionHeld, stampHeld, boundsHeld};
+use limits::MAX_DEPTH;
+use limits::RECORD_WORDS;
 use mesh_checks::Checked;
-use mesh_checks::Counts;
-use mesh_checks::Element;
-use mesh_checks::First;
+use mesh_elements::Element;
+use mesh_points::First;
 use narrow_search::Extremes;
+
+// The number of records of each kind.
+pub struct Counts {
+    pub valid: u32,
+    pub invalid: u32,
+    pub undecided: u32,
+    pub refused: u32,
+}
 
 // The answer of an inspection: accepted, with the counts of valid, invalid, undecided and refused records; or why the mesh is refused.
 pub enum Inspection {
@@ -44,7 +55,7 @@ pub enum Bounds {
 }
 
 // The record of eight points that are all in range.
-fn points_record(p: &[i32; 24], depth: u32) -> [i64; 8]
+fn points_record(p: &[i32; 24], depth: u32) -> [i64; RECORD_WORDS]
     requires { ⌜ InRange (base .range) (now p) × (depth ≤ base .depth) ⌝ }
     ensures { λ r. ⌜ r ≡ recordOf (now (p .entry)) depth ⌝ }
 {
@@ -54,23 +65,60 @@ fn points_record(p: &[i32; 24], depth: u32) -> [i64; 8]
 }
 
 // The record of the element whose eight indices are lent.
-fn element(coordinates: &[i32], ix: &[u32], depth: u32) -> [i64; 8]
+fn element(coordinates: &[i32], ix: &[u32], depth: u32) -> [i64; RECORD_WORDS]
     requires { ⌜ (length (now ix) ≡ 8) × (depth ≤ base .depth) ⌝ }
     ensures { λ r. ⌜ r ≡ elementRecord base (now (coordinates .entry)) (now (ix .entry)) depth ⌝ }
 {
     let mut p = [0i32; 24];
-    let fault = mesh_checks::fault(coordinates, ix, &mut p);
+    let fault = mesh_elements::fault(coordinates, ix, &mut p);
     match fault {
         Element::Whole => points_record(&p, depth),
-        Element::Missing(place, index) => mesh_checks::fault_words(fault),
-        Element::Twice(lower, higher) => mesh_checks::fault_words(fault),
-        Element::Outside(place, axis) => mesh_checks::fault_words(fault),
+        Element::Missing(place, index) => mesh_elements::fault_words(fault),
+        Element::Twice(lower, higher) => mesh_elements::fault_words(fault),
+        Element::Outside(place, axis) => mesh_elements::fault_words(fault),
+    }
+}
+
+// The counts with one record more, by its word 0, which is that of a kind.
+fn counted(kind: i64, n: Counts) -> Counts
+    requires { ⌜ (isKind kind ≡ true) × (countsTotal (countsHeld n) < 2 ^ 32 - 1) ⌝ }
+    ensures { λ r. ⌜ countsHeld r ≡ counted kind (countsHeld n) ⌝ }
+{
+    if kind == 0 {
+        return Counts {
+            valid: n.valid + 1,
+            invalid: n.invalid,
+            undecided: n.undecided,
+            refused: n.refused,
+        };
+    }
+    if kind == 1 {
+        return Counts {
+            valid: n.valid,
+            invalid: n.invalid + 1,
+            undecided: n.undecided,
+            refused: n.refused,
+        };
+    }
+    if kind == 2 {
+        return Counts {
+            valid: n.valid,
+            invalid: n.invalid,
+            undecided: n.undecided + 1,
+            refused: n.refused,
+        };
+    }
+    Counts {
+        valid: n.valid,
+        invalid: n.invalid,
+        undecided: n.undecided,
+        refused: n.refused + 1,
     }
 }
 
 // The records of all elements into the report space, element by element, and how many there are of each kind.
 fn write_records(coordinates: &[i32], indices: &[u32], depth: u32, report: &mut [i64]) -> Counts
-    requires { ⌜ (length (now indices) % 8 ≡ 0) × (length (now indices) / 8 ≤ base .elements) × (length (now report) ≡ 8 * (length (now indices) / 8)) ⌝ }
+    requires { ⌜ (length (now indices) % 8 ≡ 0) × (length (now indices) / 8 ≤ base .elements) × (length (now report) ≡ recordWords * (length (now indices) / 8)) ⌝ }
     requires { ⌜ (depth ≤ base .depth) ⌝ }
     ensures { λ r. ⌜ countsHeld r ≡ countsOf (records base (now (coordinates .entry)) (now (indices .entry)) depth) ⌝ }
     ensures { λ r. ⌜ now (report .exit) ≡ reportOf base (now (coordinates .entry)) (now (indices .entry)) depth ⌝ }
@@ -86,8 +134,8 @@ fn write_records(coordinates: &[i32], indices: &[u32], depth: u32, report: &mut 
         let at = 8 * e;
         let words = element(coordinates, &indices[at..at + 8], depth);
         let kind = words[0];
-        counts = mesh_checks::counted(kind, counts);
-        mesh_checks::put(report, e, words);
+        counts = counted(kind, counts);
+        mesh_report::put(report, e, words);
     }
     counts
 }
@@ -139,10 +187,10 @@ fn points_bounds(p: &[i32; 24], depth: u32) -> Extremes
 pub fn bounds_of(p: [i32; 24], depth: u32) -> Bounds
     ensures { λ r. ⌜ boundsHeld r ≡ boundsOf base p depth ⌝ }
 {
-    if limits::MAX_DEPTH < depth {
+    if MAX_DEPTH < depth {
         return Bounds::TooDeep;
     }
-    let first = mesh_checks::out_of_range(&p);
+    let first = mesh_points::out_of_range(&p);
     match first {
         First::At(k) => Bounds::OutOfRange,
         First::Nothing => {

@@ -1,5 +1,2 @@
 pub mod Meaning
-pub mod Search
-pub mod Pairs
-pub mod Elements
-pub mod Report
+pub mod Refusals

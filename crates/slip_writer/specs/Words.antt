@@ -22,9 +22,11 @@ use Rattle.verdict_theory.specs.Positive.{findings-of, corners-of}
 use Rattle.verdict_theory.specs.Meaning.{Means, means}
 use Rattle.verdict_theory.specs.Opened.{most, opened-most}
 use Rattle.verdict_theory.specs.Elements.{element-fault, element-points}
-use Rattle.mesh_checks.specs.Search.{first-below}
-use Rattle.mesh_checks.specs.Pairs.{twice-below}
-use Rattle.mesh_checks.specs.Elements.{points-within, length-points, missing-below, fault-missing, fault-twice, fault-outside, fault-none}
+use Rattle.mesh_points.specs.Search.{first-below}
+use Rattle.mesh_indices.specs.Pairs.{twice-below}
+use Rattle.mesh_indices.specs.Missing.{missing-below}
+use Rattle.mesh_points.specs.Points.{points-within, length-points}
+use Rattle.mesh_elements.specs.Elements.{fault-missing, fault-twice, fault-outside, fault-none}
 use Rattle.slip_format.specs.Room.{Held}
 
 -- the largest magnitude that is held at depth 3

@@ -11,12 +11,12 @@ ghost use Rattle.definitions.specs.Limits.{base};
 ghost use Rattle.slip_format.specs.Slip.{line, wordStamp, stampWord, tallyLine, elementLines, inspectedSlip, lotSlip, slipOf};
 ghost use Rattle.lot_format.specs.Format.{lotFile};
 ghost use Rattle.lot_format.specs.Runs.{groupsOf, lotFrom};
-ghost use Rattle.mesh_checks.specs.Meaning.{countsHeld};
+ghost use Rattle.inspector.specs.Meaning.{countsHeld};
 ghost use Rattle.inspector.specs.Meaning.{stampHeld};
 ghost use Rattle.bytes_output.specs.Behind.{Laid};
+use inspector::Counts;
 use inspector::Inspection;
 use inspector::Stamp;
-use mesh_checks::Counts;
 
 // The lines of all elements, with the eight words of each that the report has.
 fn element_lines<'a>(

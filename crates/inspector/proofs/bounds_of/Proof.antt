@@ -7,8 +7,8 @@ use mir.ValLaws.{toZ-ofZ}
 use Rattle.definitions.specs.Limits.{base}
 use Rattle.definitions.specs.Mesh.{bounds}
 use Rattle.verdict_theory.specs.Extremes.{Extremes}
-use Rattle.mesh_checks.specs.Meaning.{firstOf}
-use Rattle.mesh_checks.specs.Elements.{read-within}
+use Rattle.mesh_points.specs.Meaning.{firstOf}
+use Rattle.mesh_points.specs.Points.{read-within}
 use Rattle.inspector.specs.Answers.{bounds-deep, bounds-outside, bounds-inside}
 use borrow.Author.Needs.{needs}
 use Rattle.inspector.proofs.bounds_of.Statement.{statement}

@@ -10,10 +10,11 @@ use Rattle.definitions.specs.Record.{Fault, faultWords, recordOf}
 use Rattle.definitions.specs.Mesh.{pointsOf, faultOf, elementRecord}
 use Rattle.verdict_theory.specs.Elements.{element-fault, element-points}
 use Rattle.narrow_coefficients.specs.Range.{InRange}
-use Rattle.mesh_checks.specs.declared.Element.{Element}
-use Rattle.mesh_checks.specs.declared.Element.the-variants.{Whole}
-use Rattle.mesh_checks.specs.Meaning.{elementOf}
-use Rattle.mesh_checks.specs.Elements.{whole-element, points-gathered, read-within, length-points}
+use Rattle.mesh_elements.specs.declared.Element.{Element}
+use Rattle.mesh_elements.specs.declared.Element.the-variants.{Whole}
+use Rattle.mesh_elements.specs.Meaning.{elementOf}
+use Rattle.mesh_elements.specs.Elements.{whole-element, points-gathered}
+use Rattle.mesh_points.specs.Points.{read-within, length-points}
 use borrow.Author.Needs.{needs}
 use Rattle.inspector.proofs.element.Statement.{statement}
 use Rattle.inspector.proofs.element.Tie as tie

@@ -1,7 +1,7 @@
 -- `inspector::stamp_of` meets its contract: its two tests are the definition's. Assumes nothing.
 use mathlib.Core.Path.{refl, sym}
 use mathlib.Core.Bool.{true, false}
-use Rattle.mesh_checks.specs.Meaning.{countsHeld}
+use Rattle.inspector.specs.Meaning.{countsHeld}
 use Rattle.inspector.specs.Answers.{stamp-is}
 use Rattle.inspector.proofs.stamp_of.Statement.{statement}
 use Rattle.inspector.proofs.stamp_of.Tie as tie

@@ -4,18 +4,20 @@ use mathlib.Core.List.{List}
 use Prim.Native.Nat.{ℕ, _*_, _-_, _/_, _≤_, zero-le}
 use native.Mathlib.Omega.{arith}
 use lib.ListN.{getD, length, take, drop}
-use lib.IntN.{ℤ, pos, natAbs}
+use lib.IntN.{ℤ, pos, negsuc}
 use mir.Syntax.{w64}
 use mir.Val.{toZ, ofZ}
 use mir.ValLaws.{toZ-ofZ}
 use denote.Ref.{now}
 use borrow.Author.Needs.{needs}
-use Rattle.definitions.specs.Limits.{base}
-use Rattle.definitions.specs.Mesh.{elementRecord, counted, countsOf}
-use Rattle.verdict_theory.specs.Elements.{countsTotal}
-use Rattle.mesh_checks.specs.Report.{kind-natural}
-use Rattle.mesh_checks.specs.Meaning.{countsHeld}
-use Rattle.inspector.specs.Reports.{recordAt, firstRecords, spaceAt, space-length, counts-next, space-last, counts-last-of, part-of, part-length, natural-by, counted-so-far, put-record}
+use Rattle.definitions.specs.Limits.{base, recordWords}
+use Rattle.definitions.specs.Record.{kindWord}
+use Rattle.definitions.specs.Mesh.{elementRecord, countsOf}
+use Rattle.verdict_theory.specs.Kinds.{isKind, counted, countsTotal}
+use Rattle.verdict_theory.specs.Elements.{element-length, element-kind}
+use Rattle.inspector.specs.Kinds.{first-word}
+use Rattle.inspector.specs.Meaning.{countsHeld}
+use Rattle.inspector.specs.Reports.{recordAt, firstRecords, spaceAt, space-length, counts-next, space-last, counts-last-of, part-of, part-length, counted-so-far, put-record}
 use Rattle.inspector.proofs.write_records.Statement.{statement}
 use Rattle.inspector.proofs.write_records.Tie as tie
 
@@ -58,8 +60,14 @@ words-are : (w : tie.After-element Inv-loop μ-loop) → w .element .result ≡ 
 words-are w = let s = w .before .before .before .before .before in
     w .element .ensures ∙ ap (λ (ix : List ℕ). elementRecord base (now (s .args .coordinates)) ix (s .args .depth)) (part-of (now (s .args .indices)) (w .before .before .before .loop .e))
 
-kind-is : (c : tie.After-kind Inv-loop μ-loop) → toZ w64 (ofZ w64 (getD (c .before .element .result) 0 (pos 0))) ≡ getD (recordAt base (now (c .before .before .before .before .before .before .args .coordinates)) (now (c .before .before .before .before .before .before .args .indices)) (c .before .before .before .before .before .before .args .depth) (c .before .before .before .before .loop .e)) 0 (pos 0)
-kind-is c = toZ-ofZ w64 (getD (c .before .element .result) 0 (pos 0)) (record { sfits = c .kind .given }) ∙ ap (λ (r : List ℤ). getD r 0 (pos 0)) (words-are (c .before))
+kind-is : (c : tie.After-kind Inv-loop μ-loop) → toZ w64 (ofZ w64 (getD (c .before .element .result) 0 (pos 0))) ≡ kindWord (recordAt base (now (c .before .before .before .before .before .before .args .coordinates)) (now (c .before .before .before .before .before .before .args .indices)) (c .before .before .before .before .before .before .args .depth) (c .before .before .before .before .loop .e))
+kind-is c =
+    let s = c .before .before .before .before .before .before in
+    let e = c .before .before .before .before .loop .e in
+    let ix = take 8 (drop (8 * e) (now (s .args .indices))) in
+    toZ-ofZ w64 (getD (c .before .element .result) 0 (pos 0)) (record { sfits = c .kind .given })
+    ∙ ap (λ (r : List ℤ). getD r 0 (pos 0)) (words-are (c .before))
+    ∙ first-word (elementRecord base (now (s .args .coordinates)) ix (s .args .depth)) (omega (arith, element-length base (now (s .args .coordinates)) ix (s .args .depth))) (pos 0) (negsuc 0)
 
 counted-requires : tie.Need-counted-requires Inv-loop μ-loop
 counted-requires c κs =
@@ -70,7 +78,7 @@ counted-requires c κs =
     let indices = now (s .args .indices) in
     let e = l .loop .e in
     let counts = ap countsTotal (l .loop .inv .2) ∙ counted-so-far base coordinates indices (s .args .depth) e in (
-      natural-by _ _ (kind-is c) (kind-natural base coordinates (take 8 (drop (8 * e) indices)) (s .args .depth)),
+      ap isKind (kind-is c) ∙ element-kind base coordinates (take 8 (drop (8 * e) indices)) (s .args .depth),
       omega (arith, counts, s .pre .0 .1, w .before .before .loop-test .taken),
     )
 
@@ -80,7 +88,7 @@ put-requires c κs =
     let s = l .before .before in
     let e = l .loop .e in
     let n = c .before .before .before .before .before .loop-test .taken in
-    let h : 8 * e ≤ length (now (s .args .report)) = omega (arith, s .pre .0 .2) in
+    let h : recordWords * e ≤ length (now (s .args .report)) = omega (arith, s .pre .0 .2) in
     omega (arith, ap length (l .loop .inv .1) ∙ space-length base (now (s .args .coordinates)) (now (s .args .indices)) (s .args .depth) e (now (s .args .report)) h, s .pre .0 .2)
 
 add-e : tie.Need-add-e Inv-loop μ-loop
@@ -99,14 +107,14 @@ loop-again c =
     let e = l .loop .e in (
       omega arith,
       c .before .put .ensures ∙ put-record base coordinates indices (s .args .depth) e (now (s .args .report)) (l .loop .report) (w .element .result) (l .loop .inv .1) (words-are w),
-      c .before .before .before .counted .ensures ∙ (λ i. counted (natAbs (kind-is (c .before .before .before .before) i)) (l .loop .inv .2 i)) ∙ sym (counts-next base coordinates indices (s .args .depth) e),
+      c .before .before .before .counted .ensures ∙ (λ i. counted (kind-is (c .before .before .before .before) i) (l .loop .inv .2 i)) ∙ sym (counts-next base coordinates indices (s .args .depth) e),
     )
 
 same-length : tie.Need-same-length Inv-loop μ-loop
 same-length c =
     let l = c .before in
     let s = l .before .before in
-    let h : 8 * l .loop .e ≤ length (now (s .args .report)) = omega (arith, s .pre .0 .2) in
+    let h : recordWords * l .loop .e ≤ length (now (s .args .report)) = omega (arith, s .pre .0 .2) in
     ap length (l .loop .inv .1) ∙ space-length base (now (s .args .coordinates)) (now (s .args .indices)) (s .args .depth) (l .loop .e) (now (s .args .report)) h
 
 returns : tie.Need-returns Inv-loop μ-loop

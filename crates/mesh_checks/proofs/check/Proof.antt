@@ -1,7 +1,7 @@
 -- `check` meets its contract: each return has the tests that led to it. Assumes nothing.
 use borrow.Author.Needs.{needs}
 use borrow.Author.Tests.{lt-ltb, le-ltb, eq-eqb, ne-eqb, not-true, not-false}
-use Rattle.mesh_checks.specs.Elements.{refusal-by}
+use Rattle.mesh_checks.specs.Refusals.{refusal-by}
 use Rattle.mesh_checks.proofs.check.Statement.{statement}
 use Rattle.mesh_checks.proofs.check.Tie as tie
 
