@@ -16,7 +16,7 @@ ghost use Rattle.lot_format.specs.Naming.{nameOf};
 ghost use Rattle.lot_format.specs.Writing.{unwritableNumber, writing, fileOf};
 ghost use Rattle.slip_format.specs.Slip.{slipOf};
 ghost use Rattle.lot_writer.specs.Meaning.{runs, unwritableHeld, writtenHeld};
-ghost use Rattle.brundhal.specs.Meaning.{ShortAnswer, writtenNumbersHeld, answerNumbers, writingNumbers, nameHeld, nameTold, nameNumbers, labelStart, lotNumbers, lotHeld, numbersOf, numbersHeld, pairOf, pairHeld, stampNumber, stampTold, stampFor, addressHeld, moveHeld};
+ghost use Rattle.brundhal.specs.Meaning.{inspectionNumbers, inspectionFields, boundsNumbers, boundsFields, moveNumbers, moveFields, stampNumber, stampTold, lotNumbers, lotFields, writingNumbers, writtenFields, addressHeld, stampFor, labelStart, answerNumbers, ShortAnswer, nameHeld, nameTold, nameNumbers};
 use cell_address::Address;
 use cell_address::Moved;
 use inspector::Bounds;
@@ -105,7 +105,7 @@ fn refused(number: u32) -> BrundhalInspection
 }
 
 fn numbers(answer: Inspection) -> BrundhalInspection
-    ensures { λ r. ⌜ numbersHeld r ≡ numbersOf (inspectionHeld answer) ⌝ }
+    ensures { λ r. ⌜ inspectionFields r ≡ inspectionNumbers (inspectionHeld answer) ⌝ }
 {
     match answer {
         Inspection::Accepted(n) => BrundhalInspection {
@@ -130,14 +130,14 @@ pub extern "C" fn brundhal_inspect(
     depth: u32,
     report: &mut [i64],
 ) -> BrundhalInspection
-    ensures { λ r. ⌜ numbersHeld r ≡ numbersOf (inspection base (now (coordinates .entry)) (now (indices .entry)) (length (now (report .entry))) depth) ⌝ }
+    ensures { λ r. ⌜ inspectionFields r ≡ inspectionNumbers (inspection base (now (coordinates .entry)) (now (indices .entry)) (length (now (report .entry))) depth) ⌝ }
     ensures { λ r. ⌜ now (report .exit) ≡ reportAfter base (now (coordinates .entry)) (now (indices .entry)) (now (report .entry)) depth ⌝ }
 {
     numbers(inspector::inspect(coordinates, indices, depth, report))
 }
 
 fn pair(answer: Bounds) -> BrundhalBounds
-    ensures { λ r. ⌜ pairHeld r ≡ pairOf (boundsHeld answer) ⌝ }
+    ensures { λ r. ⌜ boundsFields r ≡ boundsNumbers (boundsHeld answer) ⌝ }
 {
     match answer {
         Bounds::Both(low, high) => BrundhalBounds {
@@ -161,7 +161,7 @@ fn pair(answer: Bounds) -> BrundhalBounds
 // Both bounds of eight points: `inspector::bounds_of`.
 #[no_mangle]
 pub extern "C" fn brundhal_bounds(points: &[i32; 24], depth: u32) -> BrundhalBounds
-    ensures { λ r. ⌜ pairHeld r ≡ pairOf (boundsOf base (now (points .entry)) depth) ⌝ }
+    ensures { λ r. ⌜ boundsFields r ≡ boundsNumbers (boundsOf base (now (points .entry)) depth) ⌝ }
 {
     let p = *points;
     pair(inspector::bounds_of(p, depth))
@@ -181,7 +181,7 @@ fn stamp_number(stamp: Stamp) -> u32
 // refused mesh, which has no stamp: 3.
 #[no_mangle]
 pub extern "C" fn brundhal_stamp(answer: BrundhalInspection) -> u32
-    ensures { λ r. ⌜ r ≡ stampTold (stampFor (numbersHeld answer)) ⌝ }
+    ensures { λ r. ⌜ r ≡ stampTold (stampFor answer) ⌝ }
 {
     if answer.number != 0 {
         return 3;
@@ -206,7 +206,7 @@ fn address(q: BrundhalAddress) -> Address
 }
 
 fn moved(answer: Moved) -> BrundhalMove
-    ensures { λ r. ⌜ moveHeld r ≡ moveOf answer ⌝ }
+    ensures { λ r. ⌜ moveFields r ≡ moveNumbers (moveOf answer) ⌝ }
 {
     match answer {
         Moved::To(q) => BrundhalMove {
@@ -229,21 +229,21 @@ fn moved(answer: Moved) -> BrundhalMove
 // The moves of an address: `cell_address::Address`.
 #[no_mangle]
 pub extern "C" fn brundhal_child(q: BrundhalAddress, n: u32) -> BrundhalMove
-    ensures { λ r. ⌜ moveHeld r ≡ childAddress (base .depth) (addressHeld q) n ⌝ }
+    ensures { λ r. ⌜ moveFields r ≡ moveNumbers (childAddress (base .depth) (addressHeld q) n) ⌝ }
 {
     moved(address(q).child(n))
 }
 
 #[no_mangle]
 pub extern "C" fn brundhal_corner(q: BrundhalAddress, n: u32) -> BrundhalMove
-    ensures { λ r. ⌜ moveHeld r ≡ cornerAddress (base .depth) (addressHeld q) n ⌝ }
+    ensures { λ r. ⌜ moveFields r ≡ moveNumbers (cornerAddress (base .depth) (addressHeld q) n) ⌝ }
 {
     moved(address(q).corner(n))
 }
 
 #[no_mangle]
 pub extern "C" fn brundhal_parent(q: BrundhalAddress) -> BrundhalMove
-    ensures { λ r. ⌜ moveHeld r ≡ parentAddress (base .depth) (addressHeld q) ⌝ }
+    ensures { λ r. ⌜ moveFields r ≡ moveNumbers (parentAddress (base .depth) (addressHeld q)) ⌝ }
 {
     moved(address(q).parent())
 }
@@ -268,7 +268,7 @@ pub extern "C" fn brundhal_read_lot(
     lengths: &mut [u32],
     offsets: &mut [u32],
 ) -> BrundhalLot
-    ensures { λ r. ⌜ lotHeld r ≡ lotNumbers (readInto lotFile (now (file .entry)) (now (nodes .entry)) (now (elements .entry)) (now (names .entry)) (now (lengths .entry)) (now (offsets .entry))) ⌝ }
+    ensures { λ r. ⌜ lotFields r ≡ lotNumbers (readInto lotFile (now (file .entry)) (now (nodes .entry)) (now (elements .entry)) (now (names .entry)) (now (lengths .entry)) (now (offsets .entry))) ⌝ }
     ensures { λ r. ⌜ take (r .len) (drop (r .start) (now (file .entry))) ≡ handedOut (readInto lotFile (now (file .entry)) (now (nodes .entry)) (now (elements .entry)) (now (names .entry)) (now (lengths .entry)) (now (offsets .entry))) .label ⌝ }
     ensures { λ r. ⌜ now (nodes .exit) ≡ laidOver (handedOut (readInto lotFile (now (file .entry)) (now (nodes .entry)) (now (elements .entry)) (now (names .entry)) (now (lengths .entry)) (now (offsets .entry))) .nodes) (now (nodes .entry)) ⌝ }
     ensures { λ r. ⌜ now (elements .exit) ≡ laidOver (handedOut (readInto lotFile (now (file .entry)) (now (nodes .entry)) (now (elements .entry)) (now (names .entry)) (now (lengths .entry)) (now (offsets .entry))) .elements) (now (elements .entry)) ⌝ }
@@ -311,7 +311,7 @@ fn unwritable_number(r: Unwritable) -> u32
 
 fn written(answer: Written) -> BrundhalWritten
     requires { ⌜ ShortAnswer answer ⌝ }
-    ensures { λ r. ⌜ writtenNumbersHeld r ≡ answerNumbers (writtenHeld answer) ⌝ }
+    ensures { λ r. ⌜ writtenFields r ≡ answerNumbers (writtenHeld answer) ⌝ }
 {
     match answer {
         Written::Length(n) => BrundhalWritten {
@@ -336,7 +336,7 @@ pub extern "C" fn brundhal_write_lot(
     offsets: &[u32],
     out: &mut [u8],
 ) -> BrundhalWritten
-    ensures { λ r. ⌜ writtenNumbersHeld r ≡ writingNumbers (writing lotFile (runs (now (label .entry)) (now (nodes .entry)) (now (elements .entry)) (now (names .entry)) (now (lengths .entry)) (now (offsets .entry))) (length (now (out .entry)))) ⌝ }
+    ensures { λ r. ⌜ writtenFields r ≡ writingNumbers (writing lotFile (runs (now (label .entry)) (now (nodes .entry)) (now (elements .entry)) (now (names .entry)) (now (lengths .entry)) (now (offsets .entry))) (length (now (out .entry)))) ⌝ }
     ensures { λ r. ⌜ now (out .exit) ≡ laidOver (fileOf (writing lotFile (runs (now (label .entry)) (now (nodes .entry)) (now (elements .entry)) (now (names .entry)) (now (lengths .entry)) (now (offsets .entry))) (length (now (out .entry))))) (now (out .entry)) ⌝ }
 {
     written(lot_writer::write(label, nodes, elements, names, lengths, offsets, out))

@@ -2,13 +2,13 @@
 use mathlib.Core.Path.{sym, ap, _∙_}
 use mathlib.Core.Option.{some}
 use Rattle.definitions.specs.Mesh.{Stamp}
-use Rattle.brundhal.specs.Meaning.{numbersHeld, stampTold, other-number, zero-number}
+use Rattle.brundhal.specs.Meaning.{stampTold, other-number, zero-number}
 use borrow.Author.Needs.{needs}
 use Rattle.brundhal.proofs.brundhal_stamp.Statement.{statement}
 use Rattle.brundhal.proofs.brundhal_stamp.Tie as tie
 
 returns : tie.Need-returns
-returns c = sym (ap stampTold (other-number (numbersHeld (c .before .before .args .answer)) (c .if1 .taken)))
+returns c = sym (ap stampTold (other-number (c .before .before .args .answer) (c .if1 .taken)))
 
 stamp-of-requires : tie.Need-stamp-of-requires
 stamp-of-requires c κs = search needs
@@ -17,7 +17,7 @@ stamp-number-requires : tie.Need-stamp-number-requires
 stamp-number-requires c κs = search needs
 
 returns-2 : tie.Need-returns-2
-returns-2 c = c .stamp-number .ensures ∙ ap (λ (s : Stamp). stampTold (some s)) (c .before .stamp-of .ensures) ∙ sym (ap stampTold (zero-number (numbersHeld (c .before .before .before .before .args .answer)) (c .before .before .if1 .left)))
+returns-2 c = c .stamp-number .ensures ∙ ap (λ (s : Stamp). stampTold (some s)) (c .before .stamp-of .ensures) ∙ sym (ap stampTold (zero-number (c .before .before .before .before .args .answer) (c .before .before .if1 .left)))
 
 pub brundhal-stamp-spec : {M : Type 1} → statement M
 brundhal-stamp-spec =

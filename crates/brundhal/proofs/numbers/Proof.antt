@@ -2,7 +2,7 @@
 use mathlib.Core.Path.{sym, ap, _∙_}
 use Rattle.inspector.specs.declared.Inspection.{Inspection}
 use Rattle.inspector.specs.Meaning.{inspectionHeld}
-use Rattle.brundhal.specs.Meaning.{numbersOf, numbersHeld}
+use Rattle.brundhal.specs.Meaning.{inspectionNumbers, inspectionFields}
 use borrow.Author.Needs.{needs}
 use Rattle.brundhal.proofs.numbers.Statement.{statement}
 use Rattle.brundhal.proofs.numbers.Tie as tie
@@ -35,19 +35,19 @@ refused-requires-4 : tie.Need-refused-requires-4
 refused-requires-4 c κs = search needs
 
 returns : tie.Need-returns
-returns c = ap (λ (x : Inspection). numbersOf (inspectionHeld x)) (sym (c .before .answer .given .1))
+returns c = ap (λ (x : Inspection). inspectionNumbers (inspectionHeld x)) (sym (c .before .answer .given .1))
 
 returns-2 : tie.Need-returns-2
-returns-2 c = ap numbersHeld (c .refused .ensures) ∙ ap (λ (x : Inspection). numbersOf (inspectionHeld x)) (sym (c .before .enum-told .given .1))
+returns-2 c = ap inspectionFields (c .refused .ensures) ∙ ap (λ (x : Inspection). inspectionNumbers (inspectionHeld x)) (sym (c .before .enum-told .given .1))
 
 returns-3 : tie.Need-returns-3
-returns-3 c = ap numbersHeld (c .refused2 .ensures) ∙ ap (λ (x : Inspection). numbersOf (inspectionHeld x)) (sym (c .before .enum-told2 .given .1))
+returns-3 c = ap inspectionFields (c .refused2 .ensures) ∙ ap (λ (x : Inspection). inspectionNumbers (inspectionHeld x)) (sym (c .before .enum-told2 .given .1))
 
 returns-4 : tie.Need-returns-4
-returns-4 c = ap numbersHeld (c .refused3 .ensures) ∙ ap (λ (x : Inspection). numbersOf (inspectionHeld x)) (sym (c .before .enum-told3 .given .1))
+returns-4 c = ap inspectionFields (c .refused3 .ensures) ∙ ap (λ (x : Inspection). inspectionNumbers (inspectionHeld x)) (sym (c .before .enum-told3 .given .1))
 
 returns-5 : tie.Need-returns-5
-returns-5 c = ap numbersHeld (c .refused4 .ensures) ∙ ap (λ (x : Inspection). numbersOf (inspectionHeld x)) (sym (c .before .enum-told4 .given .1))
+returns-5 c = ap inspectionFields (c .refused4 .ensures) ∙ ap (λ (x : Inspection). inspectionNumbers (inspectionHeld x)) (sym (c .before .enum-told4 .given .1))
 
 pub numbers-spec : {M : Type 1} → statement M
 numbers-spec =

@@ -1,10 +1,12 @@
 -- `brundhal::pair` meets its contract: by the answer's cases. Assumes nothing.
 use mir.Syntax.{w64}
 use mir.ValLaws.{toZ-ofZ}
-use mathlib.Core.Path.{sym, ap, _∙_}
+use mathlib.Core.Path.{sym, ap, ap₂, _∙_}
+use mathlib.Core.List.{[], _∷_}
+use lib.IntN.{ℤ, pos}
 use Rattle.inspector.specs.declared.Bounds.{Bounds}
 use Rattle.inspector.specs.Meaning.{boundsHeld}
-use Rattle.brundhal.specs.Meaning.{pairOf}
+use Rattle.brundhal.specs.Meaning.{boundsNumbers}
 use borrow.Author.Needs.{needs}
 use Rattle.brundhal.proofs.pair.Statement.{statement}
 use Rattle.brundhal.proofs.pair.Tie as tie
@@ -21,13 +23,13 @@ enum-told-2 c = search needs
 returns : tie.Need-returns
 returns c =
     let values = c .before .answer .given .0 in
-    (λ i. record { number = 0; low = toZ-ofZ w64 (values .0) (record { sfits = c .known-told .given .0 .1 }) i; high = toZ-ofZ w64 (values .1 .0) (record { sfits = c .known-told .given .1 .0 .1 }) i }) ∙ sym (ap (λ (b : Bounds). pairOf (boundsHeld b)) (c .before .answer .given .1))
+    ap₂ (λ (l h : ℤ). pos 0 ∷ l ∷ h ∷ []) (toZ-ofZ w64 (values .0) (record { sfits = c .known-told .given .0 .1 })) (toZ-ofZ w64 (values .1 .0) (record { sfits = c .known-told .given .1 .0 .1 })) ∙ sym (ap (λ (b : Bounds). boundsNumbers (boundsHeld b)) (c .before .answer .given .1))
 
 returns-2 : tie.Need-returns-2
-returns-2 c = sym (ap (λ (b : Bounds). pairOf (boundsHeld b)) (c .enum-told .given .1))
+returns-2 c = sym (ap (λ (b : Bounds). boundsNumbers (boundsHeld b)) (c .enum-told .given .1))
 
 returns-3 : tie.Need-returns-3
-returns-3 c = sym (ap (λ (b : Bounds). pairOf (boundsHeld b)) (c .enum-told2 .given .1))
+returns-3 c = sym (ap (λ (b : Bounds). boundsNumbers (boundsHeld b)) (c .enum-told2 .given .1))
 
 pub pair-spec : {M : Type 1} → statement M
 pair-spec =
