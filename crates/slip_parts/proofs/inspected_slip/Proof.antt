@@ -11,8 +11,8 @@ use Rattle.slip_format.specs.Slip.{line, wordLot, wordStamp, stampWord, element
 use Rattle.mesh_checks.specs.Meaning.{countsHeld}
 use Rattle.inspector.specs.Meaning.{stampHeld}
 use Rattle.bytes_output.specs.Progress.{Progress, Next, first, last, laid-none, part-fits, laid-more, laid-last}
-use Rattle.slip_writer.proofs.inspected_slip.Statement.{statement}
-use Rattle.slip_writer.proofs.inspected_slip.Tie as tie
+use Rattle.slip_parts.proofs.inspected_slip.Statement.{statement}
+use Rattle.slip_parts.proofs.inspected_slip.Tie as tie
 
 -- the parts of the slip
 abbrev groupsIn : tie.Start → List Group

@@ -16,7 +16,7 @@ use Rattle.lot_format.specs.Lawful.{Lawful, LawfulName}
 use Rattle.lot_format.specs.Accepted.{accepted-lawful}
 use Rattle.slip_format.specs.Slip.{refusedLine, inspectedSlip, lotSlip, slipOf}
 use Rattle.slip_format.specs.Room.{Short, Counted, refused-length, inspected-length}
-use Rattle.slip_writer.specs.Words.{report-held}
+use Rattle.slip_room_theory.specs.Words.{report-held}
 
 mesh-number : (r : MeshRefusal) → meshRefusalNumber r < 2 ^ 32
 mesh-number depthTooGreat = omega arith

@@ -10,9 +10,9 @@ use Rattle.lot_format.specs.Runs.{groupsOf}
 use Rattle.slip_format.specs.Decimal.{decimal, signedDecimal}
 use Rattle.slip_format.specs.Slip.{line, elementLines}
 use Rattle.bytes_output.specs.Progress.{Progress, Next, laid-none, same-space, part-fits, laid-more, laid-all}
-use Rattle.slip_writer.proofs.Lines.{linesFrom, lines-all, lines-next, lines-none}
-use Rattle.slip_writer.proofs.element_lines.Statement.{statement}
-use Rattle.slip_writer.proofs.element_lines.Tie as tie
+use Rattle.slip_parts.proofs.Lines.{linesFrom, lines-all, lines-next, lines-none}
+use Rattle.slip_parts.proofs.element_lines.Statement.{statement}
+use Rattle.slip_parts.proofs.element_lines.Tie as tie
 
 abbrev Inv-loop : tie.InvT-loop
 Inv-loop out₀ at label names lengths offsets report n next₀ e₀ out next e = (e ≤ n) × Progress at (elementLines label (groupsOf names lengths offsets) 8 0 (length report / 8) report) out₀ (linesFrom label (groupsOf names lengths offsets) (length report / 8) report e) out next
