@@ -8,10 +8,10 @@ use borrow.Author.Tests.{le-ltb}
 use lib.ListN.{length, take, drop}
 use lib.IntN.{ℤ, pos}
 use Rattle.foundation.specs.Lists.{All, concatMap, tabulate-cong, tabulate-all}
-use Rattle.definitions.specs.Limits.{Limits}
+use Rattle.definitions.specs.Limits.{Limits, recordWords}
 use Rattle.definitions.specs.Mesh.{MeshRefusal, refusal, elementRecord, records, report, Inspection, meshAccepted, meshRefused, countsOf, inspection}
 use Rattle.definitions.specs.Mesh.{meshRefusalNumber}
-use Rattle.verdict_theory.specs.DepthMonotone.{first}
+use Rattle.definitions.specs.Record.{kindWord}
 use Rattle.verdict_theory.specs.Elements.{element-same}
 use Rattle.lot_format.specs.Format.{FileLimits, Lot}
 use Rattle.lot_format.specs.Reading.{readable, readLot}
@@ -19,7 +19,7 @@ use Rattle.slip_format.specs.Slip.{refusedLine, inspectedSlip, lotSlip, 
 
 -- word 0 of a record does not say undecided
 abbrev pub Decided : List ℤ → Type 0
-Decided r = first r ≡ pos 2 → ⊥
+Decided r = kindWord r ≡ pos 2 → ⊥
 
 module _ (L : Limits) (D D′ : ℕ) (further : D ≤ D′) (shallow : D′ ≤ L .depth) (lot : Lot) (decided : All Decided (records L (lot .nodes) (lot .elements) D)) where
   same-refusal : (space : ℕ) → refusal L (length (lot .nodes)) (length (lot .elements)) space D′ ≡ refusal L (length (lot .nodes)) (length (lot .elements)) space D
@@ -45,8 +45,8 @@ module _ (L : Limits) (D D′ : ℕ) (further : D ≤ D′) (shallow : D′ ≤ 
   unfolding lotSlip
   same-lot-slip =
       let n = length (lot .elements) / 8 in
-      ap₂ (λ (x : Inspection) (words : List ℤ). elim x as (λ _. List ℕ) [ meshRefused r ↦ refusedLine (meshRefusalNumber r) | meshAccepted counts ↦ inspectedSlip (lot .label) (lot .groups) (L .words) n words counts ])
-      (same-inspection (L .words * n)) same-report
+      ap₂ (λ (x : Inspection) (words : List ℤ). elim x as (λ _. List ℕ) [ meshRefused r ↦ refusedLine (meshRefusalNumber r) | meshAccepted counts ↦ inspectedSlip (lot .label) (lot .groups) (recordWords) n words counts ])
+      (same-inspection (recordWords * n)) same-report
 
   pub same-slip : (F : FileLimits) (bytes : List ℕ) → readLot F bytes ≡ readable lot → slipOf L F D′ bytes ≡ slipOf L F D bytes
   unfolding slipOf

@@ -4,7 +4,7 @@ use Prim.Native.Nat.{ℕ, zero, suc, _*_, _/_}
 use lib.ListN.{length, take, drop}
 use lib.IntN.{ℤ}
 use Rattle.foundation.specs.Lists.{concatMap}
-use Rattle.definitions.specs.Limits.{Limits}
+use Rattle.definitions.specs.Limits.{Limits, recordWords}
 use Rattle.definitions.specs.Mesh.{Counts, meshAccepted, meshRefused, inspection, report, Stamp, sound, faulty, «open», stampOf, meshRefusalNumber}
 use Rattle.lot_format.specs.Format.{FileLimits, Lot, Group}
 use Rattle.lot_format.specs.Reading.{unreadableNumber, readable, unreadable, readLot}
@@ -58,9 +58,9 @@ inspectedSlip label gs w n words counts =
 
 -- the slip of a lot that was read without fault; its mesh is inspected with report space of just the right length
 unfoldable pub lotSlip : Limits → ℕ → Lot → List ℕ
-lotSlip L D lot = elim (inspection L (lot .nodes) (lot .elements) (L .words * (length (lot .elements) / 8)) D) [
+lotSlip L D lot = elim (inspection L (lot .nodes) (lot .elements) (recordWords * (length (lot .elements) / 8)) D) [
   | meshRefused r ↦ refusedLine (meshRefusalNumber r)
-  | meshAccepted n ↦ inspectedSlip (lot .label) (lot .groups) (L .words) (length (lot .elements) / 8) (report L (lot .nodes) (lot .elements) D) n
+  | meshAccepted n ↦ inspectedSlip (lot .label) (lot .groups) (recordWords) (length (lot .elements) / 8) (report L (lot .nodes) (lot .elements) D) n
 ]
 
 -- "A small program reads a lot from standard input, inspects at depth 3 and prints." The slip of any run of bytes.

@@ -1,104 +1,17 @@
 // The printed slip of a lot: the service `write`. Nothing has to be checked first: it takes any bytes, and states its whole answer, every
-// byte of lent space included, as an equation with `Slip` of the crate `printed` at the limits `base` and `lotFile` and depth 3.
-// The other functions lay a part of the slip over lent space from a place on, return the place behind it, and leave it to their callers
-// that there is room.
+// byte of lent space included, as an equation with `Slip` of the crate `slip_format` at the limits `base` and `lotFile` and depth 3.
+// The other functions lay the slip over lent space from a place on, return the place behind it, and leave it to their callers that there
+// is room.
 ghost use mathlib.Core.Path.{_≡_};
-ghost use mathlib.Core.List.{[], _∷_};
 ghost use Prim.Native.Nat.{_+_, _*_, _/_, _≤_};
 ghost use lib.ListN.{length};
 ghost use Rattle.foundation.specs.Laid.{laidOver};
 ghost use Rattle.definitions.specs.Limits.{base};
-ghost use Rattle.slip_format.specs.Slip.{line, wordStamp, stampWord, tallyLine, elementLines, inspectedSlip, lotSlip, slipOf};
+ghost use Rattle.slip_format.specs.Slip.{lotSlip, slipOf};
 ghost use Rattle.lot_format.specs.Format.{lotFile};
-ghost use Rattle.lot_format.specs.Runs.{groupsOf, lotFrom};
-ghost use Rattle.inspector.specs.Meaning.{countsHeld};
-ghost use Rattle.inspector.specs.Meaning.{stampHeld};
+ghost use Rattle.lot_format.specs.Runs.{lotFrom};
 ghost use Rattle.bytes_output.specs.Behind.{Laid};
-use inspector::Counts;
 use inspector::Inspection;
-use inspector::Stamp;
-
-// The lines of all elements, with the eight words of each that the report has.
-fn element_lines<'a>(
-    out: &mut [u8],
-    at: usize,
-    label: &'a [u8],
-    names: &'a [u8],
-    lengths: &[u32],
-    offsets: &[u32],
-    report: &[i64],
-) -> usize
-    requires { ⌜ length (now report) / 8 ≤ 1000 ⌝ }
-    requires { ⌜ at + length (elementLines (now label) (groupsOf (now names) (now lengths) (now offsets)) 8 0 (length (now report) / 8) (now report)) ≤ length (now out) ⌝ }
-    ensures { λ r. ⌜ Laid at (elementLines (now (label .entry)) (groupsOf (now (names .entry)) (now (lengths .entry)) (now (offsets .entry))) 8 0 (length (now (report .entry)) / 8) (now (report .entry))) (now (out .entry)) (now (out .exit)) r ⌝ }
-{
-    let n = report.len() / 8;
-    let mut next = at;
-    for e in 0..n {
-        let element = e as u32;
-        let name = lot_naming::name_of(label, names, lengths, offsets, element);
-        let start = 8 * e;
-        next = slip_lines::element_line(out, next, element, name, &report[start..start + 8]);
-    }
-    next
-}
-
-// The line of the four counts.
-fn tally_line(out: &mut [u8], at: usize, n: Counts) -> usize
-    requires { ⌜ at + length (tallyLine (countsHeld n)) ≤ length (now out) ⌝ }
-    ensures { λ r. ⌜ Laid at (tallyLine (countsHeld n)) (now (out .entry)) (now (out .exit)) r ⌝ }
-{
-    let behind_word = bytes_output::bytes(out, at, b"tally");
-    let behind_valid = slip_lines::number(out, behind_word, n.valid as u64);
-    let behind_invalid = slip_lines::number(out, behind_valid, n.invalid as u64);
-    let behind_undecided = slip_lines::number(out, behind_invalid, n.undecided as u64);
-    let behind_refused = slip_lines::number(out, behind_undecided, n.refused as u64);
-    bytes_output::byte(out, behind_refused, b'\n')
-}
-
-// The word of a stamp, behind a space.
-fn stamp_word(out: &mut [u8], at: usize, stamp: Stamp) -> usize
-    requires { ⌜ at + length (32 ∷ stampWord (stampHeld stamp)) ≤ length (now out) ⌝ }
-    ensures { λ r. ⌜ Laid at (32 ∷ stampWord (stampHeld stamp)) (now (out .entry)) (now (out .exit)) r ⌝ }
-{
-    match stamp {
-        Stamp::Sound => slip_lines::word(out, at, b"sound"),
-        Stamp::Faulty => slip_lines::word(out, at, b"faulty"),
-        Stamp::Open => slip_lines::word(out, at, b"open"),
-    }
-}
-
-// The line of a stamp.
-fn stamp_line(out: &mut [u8], at: usize, stamp: Stamp) -> usize
-    requires { ⌜ at + length (line wordStamp (stampWord (stampHeld stamp) ∷ [])) ≤ length (now out) ⌝ }
-    ensures { λ r. ⌜ Laid at (line wordStamp (stampWord (stampHeld stamp) ∷ [])) (now (out .entry)) (now (out .exit)) r ⌝ }
-{
-    let behind_word = bytes_output::bytes(out, at, b"stamp");
-    let behind_stamp = stamp_word(out, behind_word, stamp);
-    bytes_output::byte(out, behind_stamp, b'\n')
-}
-
-// The slip of a lot whose mesh was inspected, with its report and its counts.
-fn inspected_slip<'a>(
-    out: &mut [u8],
-    at: usize,
-    label: &'a [u8],
-    names: &'a [u8],
-    lengths: &[u32],
-    offsets: &[u32],
-    report: &[i64],
-    counts: Counts,
-) -> usize
-    requires { ⌜ length (now report) / 8 ≤ 1000 ⌝ }
-    requires { ⌜ at + length (inspectedSlip (now label) (groupsOf (now names) (now lengths) (now offsets)) 8 (length (now report) / 8) (now report) (countsHeld counts)) ≤ length (now out) ⌝ }
-    ensures { λ r. ⌜ Laid at (inspectedSlip (now (label .entry)) (groupsOf (now (names .entry)) (now (lengths .entry)) (now (offsets .entry))) 8 (length (now (report .entry)) / 8) (now (report .entry)) (countsHeld counts)) (now (out .entry)) (now (out .exit)) r ⌝ }
-{
-    let stamp = inspector::stamp_of(counts);
-    let behind_label = slip_lines::lot_line(out, at, label);
-    let behind_elements = element_lines(out, behind_label, label, names, lengths, offsets, report);
-    let behind_tally = tally_line(out, behind_elements, counts);
-    stamp_line(out, behind_tally, stamp)
-}
 
 // The slip of a lot that was read without fault, its groups handed in as their runs: its mesh is inspected at depth 3, with lent space for
 // the report.
@@ -120,7 +33,7 @@ fn lot_slip<'a>(
     let answer = inspector::inspect(nodes, elements, 3, report);
     match answer {
         Inspection::Accepted(counts) => {
-            inspected_slip(out, at, label, names, lengths, offsets, report, counts)
+            slip_parts::inspected_slip(out, at, label, names, lengths, offsets, report, counts)
         }
         Inspection::DepthTooGreat => slip_lines::refused_line(out, at, 1),
         Inspection::BadCoordinates => slip_lines::refused_line(out, at, 2),

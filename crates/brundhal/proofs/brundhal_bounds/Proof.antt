@@ -1,6 +1,6 @@
 -- `brundhal::brundhal_bounds` meets its contract: the answer of the inspector, in numbers. Assumes nothing.
 use mathlib.Core.Path.{ap, _∙_}
-use Rattle.brundhal.specs.Meaning.{pairOf}
+use Rattle.brundhal_answers.specs.Meaning.{boundsNumbers}
 use borrow.Author.Needs.{needs}
 use Rattle.brundhal.proofs.brundhal_bounds.Statement.{statement}
 use Rattle.brundhal.proofs.brundhal_bounds.Tie as tie
@@ -12,7 +12,7 @@ pair-requires : tie.Need-pair-requires
 pair-requires c κs = search needs
 
 returns : tie.Need-returns
-returns c = c .pair .ensures ∙ ap pairOf (c .before .bounds-of .ensures)
+returns c = c .pair .ensures ∙ ap boundsNumbers (c .before .bounds-of .ensures)
 
 pub brundhal-bounds-spec : {M : Type 1} → statement M
 brundhal-bounds-spec = tie.close (tie.spec bounds-of-requires pair-requires returns)

@@ -2,6 +2,7 @@
 use mathlib.Core.Path.{ap, _∙_}
 use Rattle.definitions.specs.Limits.{base}
 use Rattle.definitions.specs.Address.{Address, cornerAddress}
+use Rattle.brundhal_answers.specs.Meaning.{moveNumbers}
 use borrow.Author.Needs.{needs}
 use Rattle.brundhal.proofs.brundhal_corner.Statement.{statement}
 use Rattle.brundhal.proofs.brundhal_corner.Tie as tie
@@ -16,7 +17,7 @@ moved-requires : tie.Need-moved-requires
 moved-requires c κs = search needs
 
 returns : tie.Need-returns
-returns c = c .moved .ensures ∙ c .before .corner .ensures ∙ ap (λ (q : Address). cornerAddress (base .depth) q (c .before .before .before .args .n)) (c .before .before .address .ensures)
+returns c = c .moved .ensures ∙ ap moveNumbers (c .before .corner .ensures) ∙ ap (λ (q : Address). moveNumbers (cornerAddress (base .depth) q (c .before .before .before .args .n))) (c .before .before .address .ensures)
 
 pub brundhal-corner-spec : {M : Type 1} → statement M
 brundhal-corner-spec = tie.close (tie.spec address-requires corner-requires moved-requires returns)

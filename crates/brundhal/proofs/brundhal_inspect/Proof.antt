@@ -1,6 +1,6 @@
 -- `brundhal::brundhal_inspect` meets its contract: the answer of the inspector, in numbers. Assumes nothing.
 use mathlib.Core.Path.{ap, _∙_}
-use Rattle.brundhal.specs.Meaning.{numbersOf}
+use Rattle.brundhal_answers.specs.Meaning.{inspectionNumbers}
 use borrow.Author.Needs.{needs}
 use Rattle.brundhal.proofs.brundhal_inspect.Statement.{statement}
 use Rattle.brundhal.proofs.brundhal_inspect.Tie as tie
@@ -15,7 +15,7 @@ same-length : tie.Need-same-length
 same-length c = search needs
 
 returns : tie.Need-returns
-returns c = (c .numbers .ensures ∙ ap numbersOf (c .before .before .inspect .ensures .0), c .before .before .inspect .ensures .1)
+returns c = (c .numbers .ensures ∙ ap inspectionNumbers (c .before .before .inspect .ensures .0), c .before .before .inspect .ensures .1)
 
 pub brundhal-inspect-spec : {M : Type 1} → statement M
 brundhal-inspect-spec = tie.close (tie.spec inspect-requires numbers-requires same-length returns)

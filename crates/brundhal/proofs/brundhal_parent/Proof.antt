@@ -1,7 +1,8 @@
 -- `brundhal::brundhal_parent` meets its contract: the answer of the address. Assumes nothing.
 use mathlib.Core.Path.{ap, _∙_}
 use Rattle.definitions.specs.Limits.{base}
-use Rattle.definitions.specs.Address.{parentAddress}
+use Rattle.definitions.specs.Address.{Address, parentAddress}
+use Rattle.brundhal_answers.specs.Meaning.{moveNumbers}
 use borrow.Author.Needs.{needs}
 use Rattle.brundhal.proofs.brundhal_parent.Statement.{statement}
 use Rattle.brundhal.proofs.brundhal_parent.Tie as tie
@@ -16,7 +17,7 @@ moved-requires : tie.Need-moved-requires
 moved-requires c κs = search needs
 
 returns : tie.Need-returns
-returns c = c .moved .ensures ∙ c .before .parent .ensures ∙ ap (parentAddress (base .depth)) (c .before .before .address .ensures)
+returns c = c .moved .ensures ∙ ap moveNumbers (c .before .parent .ensures) ∙ ap (λ (q : Address). moveNumbers (parentAddress (base .depth) q)) (c .before .before .address .ensures)
 
 pub brundhal-parent-spec : {M : Type 1} → statement M
 brundhal-parent-spec = tie.close (tie.spec address-requires parent-requires moved-requires returns)

@@ -15,7 +15,7 @@ use Rattle.lot_format.specs.Runs.{Runs, lotFrom}
 use Rattle.lot_reader.specs.Promise.{Read, asRead}
 use Rattle.slip_format.specs.Slip.{refusedLine, lotSlip, slipOf}
 use Rattle.bytes_output.specs.Behind.{laid-as}
-use Rattle.slip_writer.specs.Promise.{slip-room}
+use Rattle.slip_room_theory.specs.Promise.{slip-room}
 use Rattle.slip_writer.proofs.Files.{Counts, refused-slip, read-slip, read-counts}
 use Rattle.slip_writer.proofs.file_slip.Statement.{statement}
 use Rattle.slip_writer.proofs.file_slip.Tie as tie

@@ -1,0 +1,138 @@
+-- Every word of a report is a number of 64 bits. Document 01: "the largest magnitude at depth 3 is at most 6,917,529,027,641,081,856, which fits 64 bits".
+use mathlib.Core.Path.{_≡_, refl, sym, _∙_, ap, subst}
+use mathlib.Core.Bool.{not}
+use mathlib.Core.List.{List}
+use mathlib.Core.Option.{Option, none, some}
+use Prim.Native.Nat.{ℕ, zero, suc, _+_, _*_, _/_, _%_, _^_, _<_, _≤_}
+use native.Mathlib.Nat.{le-trans, mul-le-mul-left, pow-le-pow-right}
+use native.Mathlib.Omega.{arith}
+use lib.ListN.{getD, length, take, drop, take-append-drop}
+use lib.IntN.{ℤ, pos, natAbs}
+use Rattle.foundation.specs.Lists.{All, all-left, all-right, all-map, all-both, all-getD-default, all-concat, all-tabulate, concatMap}
+use Rattle.foundation.specs.Words.{within, sfits-below}
+use Rattle.definitions.specs.Limits.{base}
+use Rattle.definitions.specs.Subdivision.{Cell, cells}
+use Rattle.definitions.specs.Verdict.{Finding, cornersOf, coefficientsOf, Verdict, valid, invalid, undecided, verdict, opened}
+use Rattle.definitions.specs.Record.{Fault, words, faultWords, verdictWords, recordOf}
+use Rattle.definitions.specs.Mesh.{missingIndex, namedTwice, pointsOf, outOfRange, usable, faultOf, elementRecord, records, report}
+use Rattle.expansion_theory.specs.Size.{coefficient-size}
+use Rattle.expansion_theory.specs.Cells.{CellOf, all-cells, corner-is}
+use Rattle.verdict_theory.specs.Findings.{first-has}
+use Rattle.verdict_theory.specs.Positive.{findings-of, corners-of}
+use Rattle.verdict_theory.specs.Meaning.{Means, means, invalid-point, undecided-coefficient}
+use Rattle.verdict_theory.specs.Opened.{most, opened-most}
+use Rattle.verdict_theory.specs.Elements.{element-fault, element-points}
+use Rattle.mesh_points.specs.Search.{first-below}
+use Rattle.mesh_indices.specs.Pairs.{twice-below}
+use Rattle.mesh_indices.specs.Missing.{missing-below}
+use Rattle.mesh_points.specs.Points.{points-within, length-points}
+use Rattle.mesh_elements.specs.Elements.{fault-missing, fault-twice, fault-outside, fault-none}
+use Rattle.slip_format.specs.Room.{Held}
+
+-- the largest magnitude that is held at depth 3
+abbrev Largest : ℤ → Type 0
+Largest v = natAbs v ≤ 6917529027641081856
+
+largest-held : (v : ℤ) → Largest v → Held v
+largest-held v h = sfits-below v h (omega arith) .sfits
+
+few-opened : (D : ℕ) → D ≤ 3 → most D ≤ 585
+few-opened zero h = omega arith
+few-opened (suc zero) h = omega arith
+few-opened (suc (suc zero)) h = omega arith
+few-opened (suc (suc (suc zero))) h = omega arith
+few-opened (suc (suc (suc (suc D)))) h = absurd (omega arith)
+
+grid-small : (m : ℕ) → m ≤ 3 → 2 ^ m ≤ 8
+grid-small m h = pow-le-pow-right {n = 2} (omega arith) h
+
+level-largest : (m : ℕ) → m ≤ 3 → 384 * 4096 ^ 3 * 64 ^ m ≤ 6917529027641081856
+level-largest m h = mul-le-mul-left (384 * 4096 ^ 3) (pow-le-pow-right {n = 64} (omega arith) h)
+
+-- ---- the record of eight points
+module _ (xs : List ℤ) (sized : length xs ≡ 24) (inside : outOfRange base xs ≡ none) where
+  controls : (m : ℕ) → m ≤ 3 → All (λ s. All Largest (s .control)) (cells xs m)
+  controls m h = all-map (λ s. All (λ v. natAbs v ≤ 384 * 4096 ^ 3 * 64 ^ m) (s .control)) (λ s. All Largest (s .control))
+      (λ s. all-map (λ v. natAbs v ≤ 384 * 4096 ^ 3 * 64 ^ m) Largest (λ v l. le-trans l (level-largest m h)) (s .control))
+      (cells xs m) (coefficient-size xs 4096 (within 4096 xs (points-within base xs inside sized)) m)
+
+  control-at : (s : Cell) (n : ℕ) → All Largest (s .control) → Largest (getD (s .control) n (pos 0))
+  control-at s n h = all-getD-default Largest (s .control) (pos 0) n (omega arith) h
+
+  coefficients-largest : (m : ℕ) → m ≤ 3 → All (λ f. Largest (f .value)) (concatMap coefficientsOf (cells xs m))
+  coefficients-largest m h = all-concat (λ f. Largest (f .value)) coefficientsOf (cells xs m)
+      (all-map (λ s. All Largest (s .control)) (λ s. All (λ f. Largest (f .value)) (coefficientsOf s)) (λ s g. findings-of Largest s (λ n _. control-at s n g)) (cells xs m) (controls m h))
+
+  points-largest : (m : ℕ) → m ≤ 3 → All (λ f. Largest (f .value)) (concatMap (cornersOf xs m) (cells xs m))
+  points-largest m h = all-concat (λ f. Largest (f .value)) (cornersOf xs m) (cells xs m)
+      (all-map (λ s. CellOf xs m s × All Largest (s .control)) (λ s. All (λ f. Largest (f .value)) (cornersOf xs m s))
+      (λ s g. corners-of xs (λ f. Largest (f .value)) m s (λ k l. subst Largest (corner-is xs m s (g .0) k l) (control-at s k (g .1))))
+      (cells xs m) (all-both (CellOf xs m) (λ s. All Largest (s .control)) (cells xs m) (all-cells xs m) (controls m h)))
+
+  words-held : (D n : ℕ) (v : Verdict) → D ≤ 3 → n ≤ 585 → Means xs D v → All Held (verdictWords v n)
+  words-held D n (valid l) h k m =
+      let low = m .within in
+      (omega arith, (omega arith, (omega arith, (omega arith, (omega arith, (omega arith, (omega arith, (omega arith, tt))))))))
+  words-held D n (invalid l f) h k m =
+      let low = m .within in
+      let p = invalid-point xs D l f m in
+      let g = grid-small l (omega arith) in
+      let value = largest-held (f .value) (first-has (λ x. Largest (x .value)) (concatMap (cornersOf xs l) (cells xs l)) f (m .named) (points-largest l (omega arith))) in
+      (omega arith, (omega arith, (omega (arith, p .on-grid .0), (omega (arith, p .on-grid .1), (omega (arith, p .on-grid .2), (omega (arith, p .number), (value, (omega arith, tt))))))))
+  words-held D n (undecided l f) h k m =
+      let level = m .level in
+      let c = undecided-coefficient xs D l f m in
+      let cell = c .of-level in
+      let g = grid-small D h in
+      let a = ap (λ (x : Finding). x .a) (c .is) in
+      let b = ap (λ (x : Finding). x .b) (c .is) in
+      let d = ap (λ (x : Finding). x .c) (c .is) in
+      let number = ap (λ (x : Finding). x .number) (c .is) in
+      let value = largest-held (f .value) (first-has (λ x. Largest (x .value)) (concatMap coefficientsOf (cells xs D)) f (m .named) (coefficients-largest D h)) in
+      (omega arith, (omega arith, (omega (arith, cell .a-below), (omega (arith, cell .b-below), (omega (arith, cell .c-below), (omega (arith, c .number), (value, (omega arith, tt))))))))
+
+  pub record-held : (D : ℕ) → D ≤ 3 → All Held (recordOf xs D)
+  unfolding recordOf
+  record-held D h = words-held D (opened xs D) (verdict xs D) h (le-trans (opened-most xs D) (few-opened D h)) (means xs D)
+
+-- ---- the record of an element whose indices are numbers of 32 bits
+abbrev Index : ℕ → Type 0
+Index x = x < 2 ^ 32
+
+module _ (coordinates : List ℤ) (ix : List ℕ) (small : All Index ix) (D : ℕ) (shallow : D ≤ 3) where
+  outside-below : (k : ℕ) → outOfRange base (pointsOf coordinates ix) ≡ some k → k < 24
+  unfolding outOfRange
+  outside-below k e = first-below (λ j. not (usable base (getD (pointsOf coordinates ix) j (pos 0)))) 0 24 k e
+
+  -- the words of a refused element: its number and two more
+  refused-held : (f : Fault) (n p q : ℕ) → faultOf base coordinates ix ≡ some f → faultWords f ≡ words n p q 0 0 0 (pos 0) 0 → n < 8 → p < 9 → q < 2 ^ 32 → All Held (elementRecord base coordinates ix D)
+  refused-held f n p q e w k l m = subst (All Held) (sym (element-fault base coordinates ix D f e ∙ w))
+      (omega arith, (omega arith, (omega arith, (omega arith, (omega arith, (omega arith, (omega arith, (omega arith, tt))))))))
+
+  element-held : All Held (elementRecord base coordinates ix D)
+  element-held = go (missingIndex (length coordinates / 3) ix) refl (namedTwice ix) refl (outOfRange base (pointsOf coordinates ix)) refl
+    where
+      go : (m : Option ℕ) → missingIndex (length coordinates / 3) ix ≡ m → (t : Option ℕ) → namedTwice ix ≡ t → (o : Option ℕ) → outOfRange base (pointsOf coordinates ix) ≡ o
+          → All Held (elementRecord base coordinates ix D)
+      go (some k) e t g o f =
+          let below = missing-below (length coordinates / 3) ix k e in
+          refused-held _ 5 (k + 1) (getD ix k 0) (fault-missing base coordinates ix k e) refl (omega arith) (omega arith) (all-getD-default Index ix 0 k (omega arith) small)
+      go none e (some k) g o f =
+          let below = twice-below ix k g in
+          refused-held _ 7 (k / 8 + 1) (k % 8 + 1) (fault-twice base coordinates ix k e g) refl (omega arith) (omega arith) (omega arith)
+      go none e none g (some k) f =
+          let below = outside-below k f in
+          refused-held _ 6 (k / 3 + 1) (k % 3 + 1) (fault-outside base coordinates ix k e g f) refl (omega arith) (omega arith) (omega arith)
+      go none e none g none f = subst (All Held) (sym (element-points base coordinates ix D (fault-none base coordinates ix e g f))) (record-held (pointsOf coordinates ix) (length-points coordinates ix) f D shallow)
+
+-- ---- the report
+part : (n m : ℕ) (ix : List ℕ) → All Index ix → All Index (take n (drop m ix))
+part n m ix h =
+    let rest = all-right Index (take m ix) (drop m ix) (rw take-append-drop h) in
+    all-left Index (take n (drop m ix)) (drop n (drop m ix)) (rw take-append-drop rest)
+
+pub report-held : (coordinates : List ℤ) (indices : List ℕ) → All (λ x. x < 2 ^ 32) indices → (D : ℕ) → D ≤ 3 → All Held (report base coordinates indices D)
+unfolding report records
+report-held coordinates indices h D shallow = all-concat Held (λ r. r) (records base coordinates indices D)
+    (all-tabulate (λ r. All Held r) (λ e. elementRecord base coordinates (take 8 (drop (8 * e) indices)) D) 0 (length indices / 8)
+    (λ e _ _. element-held coordinates (take 8 (drop (8 * e) indices)) (part 8 (8 * e) indices h) D shallow))
