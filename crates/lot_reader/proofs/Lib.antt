@@ -1,5 +1,1 @@
-pub mod Laws
-pub mod Seen
-pub mod Answers
-pub mod EntryRuns
-pub mod Handed
+mod Answers

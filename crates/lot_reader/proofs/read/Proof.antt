@@ -8,8 +8,9 @@ use Rattle.lot_format.specs.NumberLaws.{bytes-by-place}
 use Rattle.lot_format.specs.Format.{lotFile}
 use Rattle.lot_format.specs.Runs.{Runs}
 use Rattle.lot_format.specs.Reading.{readInto, readingNumbers}
-use Rattle.lot_reader.specs.Meaning.{scanHeld, Few}
-use Rattle.lot_reader.proofs.Answers.{scan-fails, read-handable, read-same, read-numbers, read-place, label-there, label-is}
+use Rattle.lot_scan.specs.Meaning.{scanHeld, Few}
+use Rattle.lot_scan.specs.Scans.{scan-fails}
+use Rattle.lot_reader.proofs.Answers.{read-handable, read-same, read-numbers, read-place, label-there, label-is}
 use borrow.Author.Needs.{needs}
 use Rattle.lot_reader.proofs.read.Statement.{statement}
 use Rattle.lot_reader.proofs.read.Tie as tie
