@@ -19,7 +19,7 @@ use Rattle.brundhal.specs.declared.BrundhalLot.{BrundhalLot}
 use Rattle.brundhal.specs.declared.BrundhalWritten.{BrundhalWritten}
 use Rattle.brundhal.specs.declared.BrundhalName.{BrundhalName}
 use Rattle.lot_format.specs.Format.{lotFile, Group}
-use Rattle.lot_format.specs.Naming.{nameInForce, placeInForce, isEmpty}
+use Rattle.lot_format.specs.Naming.{nameInForce, placeInForce, isEmpty, unnamedNumber, Naming, named, unnamed}
 use Rattle.lot_format.specs.Writing.{unwritableNumber, Writing, fileOf, writingNumber}
 use Rattle.lot_writer.specs.declared.Written.{Written}
 use Rattle.lot_writer.specs.declared.Written.the-variants.{Length, Refused}
@@ -119,12 +119,16 @@ abbrev pub ShortAnswer : Written → Type 0
 ShortAnswer (Length n) = n ≤ lotFile .bytes
 ShortAnswer (Refused r) = Unit
 
--- a name: 1 and its place and length among the names, or 0, 0 and the length of the label
+-- a name: its number, then 1 and its place and length among the names, or 0, 0 and the length of the label; of a refusal its number and 0 for each
 abbrev pub nameHeld : BrundhalName → List ℕ
-nameHeld r = r .grouped ∷ r .start ∷ r .len ∷ []
+nameHeld r = r .number ∷ r .grouped ∷ r .start ∷ r .len ∷ []
 
-abbrev pub nameNumbers : List ℕ → List Group → ℕ → List ℕ
-nameNumbers label gs e = elim (isEmpty (nameInForce [] gs e)) [ true ↦ 0 ∷ 0 ∷ length label ∷ [] | false ↦ 1 ∷ placeInForce 0 0 gs e ∷ length (nameInForce [] gs e) ∷ [] ]
+abbrev pub partNumbers : List ℕ → List Group → ℕ → List ℕ
+partNumbers label gs e = elim (isEmpty (nameInForce [] gs e)) [ true ↦ 0 ∷ 0 ∷ length label ∷ [] | false ↦ 1 ∷ placeInForce 0 0 gs e ∷ length (nameInForce [] gs e) ∷ [] ]
+
+abbrev pub nameNumbers : List ℕ → List Group → ℕ → Naming → List ℕ
+nameNumbers label gs e (named name) = 0 ∷ partNumbers label gs e
+nameNumbers label gs e (unnamed r) = unnamedNumber r ∷ 0 ∷ 0 ∷ 0 ∷ []
 
 -- the bytes that these numbers tell
 abbrev pub nameTold : BrundhalName → List ℕ → List ℕ → List ℕ
