@@ -214,23 +214,29 @@ BrundhalWritten brundhal_write_lot(const uint8_t *label, size_t label_len,
                                    const uint32_t *offsets, size_t offsets_len,
                                    uint8_t *out, size_t out_len);
 
-/* The name that an element bears, a part of the caller's own bytes with no 0 byte
- * at its end: grouped 1, and len bytes from names + start; or grouped 0, and the
- * whole label, start 0 and len its length. */
+/* The answer of naming an element. number is 0 with the name that it bears, a part
+ * of the caller's own bytes with no 0 byte at its end: grouped 1, and len bytes from
+ * names + start; or grouped 0, and the whole label, start 0 and len its length. An
+ * element that is not named has all else 0, and its number is
+ *   24  the groups do not fit together, as brundhal_write_lot has it
+ *   23  the label or a group's name is longer than 32 bytes
+ *   25  a byte of the label or of the names is not in 32..126
+ *   28  element is not below elements
+ * tested in this order. */
 typedef struct BrundhalName {
+    uint32_t number;
     uint32_t grouped;
     size_t start, len;
 } BrundhalName;
 
-/* Names an element, counted from 0. It has its name from the last group in the
- * list that stands after no more elements than its number. If there is none, or the
- * name is empty, it bears the label. Any arrays are taken: groups are read as far as
- * both lists go, and a name that would reach past the end of names is cut there. */
+/* Names an element, counted from 0, of so many elements. It has its name from the
+ * last group in the list that stands after no more elements than its number. If
+ * there is none, or the name is empty, it bears the label. */
 BrundhalName brundhal_name(const uint8_t *label, size_t label_len,
                            const uint8_t *names, size_t names_len,
                            const uint32_t *lengths, size_t lengths_len,
                            const uint32_t *offsets, size_t offsets_len,
-                           uint32_t element);
+                           uint32_t elements, uint32_t element);
 
 /* The length of lent space for a slip: every slip fits. */
 #define BRUNDHAL_SLIP_BYTES 262144

@@ -31,20 +31,27 @@ static int read_file(const char *name, size_t *len)
     return whole;
 }
 
-/* Each element's name, a part of the lot's names or its label, and its verdict. */
-static void print_elements(const BrundhalLot *lot)
+/* Each element's name, a part of the lot's names or its label, and its verdict;
+ * whether all were named. */
+static int print_elements(const BrundhalLot *lot)
 {
     static const char *const verdicts[] = { "valid", "invalid", "undecided" };
     const uint8_t *label = file + lot->start;
 
     for (uint32_t element = 0; element < lot->elements; element++) {
         BrundhalName name = brundhal_name(label, lot->len, names, lot->names,
-                                          lengths, lot->groups, offsets, lot->groups, element);
+                                          lengths, lot->groups, offsets, lot->groups,
+                                          lot->elements, element);
+        if (name.number != 0) {
+            fprintf(stderr, "name refused %" PRIu32 "\n", name.number);
+            return 0;
+        }
         const uint8_t *bytes = (name.grouped ? names : label) + name.start;
         int64_t kind = report[BRUNDHAL_RECORD_WORDS * element];
         printf("element %" PRIu32 " of %.*s: %s\n", element + 1, (int)name.len,
                (const char *)bytes, kind <= 2 ? verdicts[kind] : "refused");
     }
+    return 1;
 }
 
 /* Whether the lot is written as the file that it was read from. */
@@ -92,7 +99,8 @@ int main(int argc, char **argv)
         fprintf(stderr, "mesh refused %" PRIu32 "\n", answer.number);
         return 1;
     }
-    print_elements(&lot);
+    if (!print_elements(&lot))
+        return 1;
     printf("valid %" PRIu32 " invalid %" PRIu32 " undecided %" PRIu32 " refused %" PRIu32 "\n",
            answer.valid, answer.invalid, answer.undecided, answer.refused);
     /* An accepted mesh has one of these three. */

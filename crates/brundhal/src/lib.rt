@@ -10,12 +10,12 @@ ghost use Rattle.lot_format.specs.Format.{lotFile};
 ghost use Rattle.lot_format.specs.Reading.{readInto, handedOut};
 ghost use Rattle.foundation.specs.Laid.{laidOver};
 ghost use Rattle.lot_format.specs.Runs.{groupsOf};
-ghost use Rattle.lot_format.specs.Naming.{nameOf};
+ghost use Rattle.lot_format.specs.Naming.{naming, nameGiven};
 ghost use Rattle.lot_format.specs.Writing.{writing, fileOf};
 ghost use Rattle.slip_format.specs.Slip.{slipOf};
 ghost use Rattle.lot_writer.specs.Meaning.{runs};
 ghost use Rattle.brundhal_answers.specs.Meaning.{inspectionNumbers, inspectionFields, boundsNumbers, boundsFields, moveNumbers, moveFields, stampTold, lotNumbers, lotFields, writingNumbers, writtenFields, addressHeld, stampFor};
-ghost use Rattle.brundhal.specs.Meaning.{nameHeld, nameTold, nameNumbers};
+ghost use Rattle.brundhal.specs.Meaning.{nameFields, nameTold, nameNumbers};
 use brundhal_answers::BrundhalAddress;
 use brundhal_answers::BrundhalBounds;
 use brundhal_answers::BrundhalInspection;
@@ -23,9 +23,11 @@ use brundhal_answers::BrundhalLot;
 use brundhal_answers::BrundhalMove;
 use brundhal_answers::BrundhalWritten;
 
-// The name that an element bears: 1 and the place and length of a part of the names; or 0, 0 and the length of the label, whose whole it is.
+// The number that answers the naming of an element, 0 or 24, 23, 25, 28, and the name that it bears: 1 and the place and length of a part of
+// the names; or 0, 0 and the length of the label, whose whole it is. A refusal has 0 for each.
 #[repr(C)]
 pub struct BrundhalName {
+    pub number: u32,
     pub grouped: u32,
     pub start: usize,
     pub len: usize,
@@ -140,20 +142,32 @@ pub extern "C" fn brundhal_name(
     names: &[u8],
     lengths: &[u32],
     offsets: &[u32],
+    elements: u32,
     element: u32,
 ) -> BrundhalName
-    ensures { λ r. ⌜ nameHeld r ≡ nameNumbers (now (label .entry)) (groupsOf (now (names .entry)) (now (lengths .entry)) (now (offsets .entry))) element ⌝ }
-    ensures { λ r. ⌜ nameTold r (now (label .entry)) (now (names .entry)) ≡ nameOf (now (label .entry)) (groupsOf (now (names .entry)) (now (lengths .entry)) (now (offsets .entry))) element ⌝ }
+    ensures { λ r. ⌜ nameFields r ≡ nameNumbers (now (label .entry)) (groupsOf (now (names .entry)) (now (lengths .entry)) (now (offsets .entry))) element (naming lotFile (now (label .entry)) (now (names .entry)) (now (lengths .entry)) (now (offsets .entry)) elements element) ⌝ }
+    ensures { λ r. ⌜ nameTold r (now (label .entry)) (now (names .entry)) ≡ nameGiven (naming lotFile (now (label .entry)) (now (names .entry)) (now (lengths .entry)) (now (offsets .entry)) elements element) ⌝ }
 {
-    let part = lot_naming::part_in_force(names, lengths, offsets, element);
+    let number = lot_naming::refusal_of(label, names, lengths, offsets, elements, element);
+    if number != 0 {
+        return BrundhalName {
+            number: number,
+            grouped: 0,
+            start: 0,
+            len: 0,
+        };
+    }
+    let part = lot_groups::part_in_force(names, lengths, offsets, element);
     if part.len == 0 {
         return BrundhalName {
+            number: 0,
             grouped: 0,
             start: 0,
             len: label.len(),
         };
     }
     BrundhalName {
+        number: 0,
         grouped: 1,
         start: part.start,
         len: part.len,

@@ -11,11 +11,11 @@ use lib.Seq.{drop-drop, take-all}
 use Rattle.foundation.specs.Lists.{drop-next, sum}
 use Rattle.lot_format.specs.Format.{Group, GR, entryBytes, elementEntries, groupedEntries}
 use Rattle.lot_format.specs.Runs.{groupsOf}
-use Rattle.lot_format.specs.Writing.{rising, allUpTo}
+use Rattle.lot_format.specs.Groups.{rising, allUpTo}
+use Rattle.lot_format.specs.RunLaws.{total-next}
 use Rattle.lot_format.specs.Lawful.{rising-low, rising-high, rising-rest}
 use Rattle.lot_roundtrip_theory.specs.Tests.{true-both}
 use Rattle.lot_entry_writer.specs.Meaning.{Grouped}
-use Rattle.lot_entry_writer.proofs.Laws.{total-next}
 use Rattle.bytes_output.specs.Progress.{Next, last}
 
 pub record Among (elements names lengths offsets : List ℕ) (k done named : ℕ) : Type 0 where

@@ -1,4 +1,3 @@
-pub mod Laws
 pub mod Signs
 pub mod Parts
 pub mod Among

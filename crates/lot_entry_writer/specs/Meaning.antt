@@ -7,7 +7,7 @@ use lib.ListN.{length}
 use Rattle.foundation.specs.Lists.{sum}
 use Rattle.lot_format.specs.Numbers.{numberBytes}
 use Rattle.lot_format.specs.Format.{lotFile}
-use Rattle.lot_format.specs.Writing.{rising, allUpTo}
+use Rattle.lot_format.specs.Groups.{rising, allUpTo}
 
 -- an entry by the number of its letters
 abbrev pub entryWith : ℕ → List ℕ → List ℕ

@@ -13,7 +13,7 @@ use Rattle.lot_format.specs.Numbers.{Byte, unsigneds, signeds, unsignedB
 use Rattle.lot_format.specs.Format.{Lot, Group, Mark, LB, ND, HX, GR, EN, entryBytes, entries, nodeEntries, elementEntries, groupedEntries}
 use Rattle.lot_format.specs.Runs.{offsetsOf}
 use Rattle.lot_format.specs.Reading.{taken, noLot}
-use Rattle.lot_format.specs.Writing.{rising}
+use Rattle.lot_format.specs.Groups.{rising}
 use Rattle.lot_format.specs.NumberLaws.{unsignedBytes-unsigneds, signedBytes-signeds}
 use Rattle.lot_format.specs.Joined.{joined-none}
 use Rattle.lot_format.specs.Lawful.{rising-low, rising-high, rising-rest}

@@ -16,7 +16,7 @@ use Rattle.lot_format.specs.Numbers.{Byte, unsigneds, signeds}
 use Rattle.lot_format.specs.Format.{FileLimits, Group, Lot, Mark, LB, ND, HX, GR, EN, rightLength, nameBytes}
 use Rattle.lot_format.specs.Runs.{offsetsOf}
 use Rattle.lot_format.specs.Reading.{Unreadable, nameFault, bodyFault, taken, noLot}
-use Rattle.lot_format.specs.Writing.{rising}
+use Rattle.lot_format.specs.Groups.{rising}
 use Rattle.lot_format.specs.Joined.{joined-none, offsets-append}
 use Rattle.lot_format.specs.NumberLaws.{unsigneds-small, signeds-small}
 

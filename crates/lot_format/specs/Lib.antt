@@ -2,9 +2,11 @@ pub mod Numbers
 pub mod Format
 pub mod Runs
 pub mod Reading
+pub mod Groups
 pub mod Naming
 pub mod Writing
 pub mod Examples
+pub mod NamingExamples
 pub mod RunLaws
 pub mod NumberLaws
 pub mod Joined

@@ -1,12 +1,12 @@
 -- Groups and their runs: each is had from the other.
 use mathlib.Core.Path.{_≡_, refl, _∙_, ap, ap₂}
 use mathlib.Core.List.{List, [], _∷_, _++_}
-use Prim.Native.Nat.{ℕ}
+use Prim.Native.Nat.{ℕ, _+_, _<_}
 use native.Mathlib.Omega.{arith}
-use lib.ListN.{length, take, drop, length-drop, take-append-drop}
+use lib.ListN.{getD, length, take, drop, length-drop, take-append-drop}
 use lib.IntN.{ℤ}
 use lib.Seq.{take-append-seam, drop-append-seam, length-take-le}
-use Rattle.foundation.specs.Lists.{sum}
+use Rattle.foundation.specs.Lists.{drop-next, sum}
 use Rattle.lot_format.specs.Format.{Lot, Group}
 use Rattle.lot_format.specs.Runs.{Runs, namesOf, lengthsOf, offsetsOf, runsOf, groupsOf, lotFrom}
 
@@ -19,6 +19,10 @@ groups-back (g ∷ gs) =
 
 pub lot-back : (lot : Lot) → lotFrom (runsOf lot) ≡ lot
 lot-back lot = ap (λ (gs : List Group). record { label = lot .label; nodes = lot .nodes; elements = lot .elements; groups = gs }) (groups-back (lot .groups))
+
+-- ---- lengths from a place on
+pub total-next : (xs : List ℕ) (k : ℕ) → k < length xs → sum (drop k xs) ≡ getD xs k 0 + sum (drop (k + 1) xs)
+total-next xs k h = ap sum (drop-next xs k 0 h)
 
 -- ---- the runs of groups that fit together
 module _ (names lengths offsets : List ℕ) where

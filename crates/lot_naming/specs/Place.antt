@@ -1,10 +1,10 @@
--- Document 01, "The form each place needs": "naming an element returns a part of either the group's slice or the lot's slice". Which part it is.
-use mathlib.Core.Bool.{true, false}
-use mathlib.Core.List.{List, []}
-use Prim.Native.Nat.{ℕ, _+_}
+-- Where the answer starts: an empty one of a refusal where the label does.
+use mathlib.Core.List.{List}
+use Prim.Native.Nat.{ℕ}
 use Rattle.lot_format.specs.Format.{Group}
-use Rattle.lot_format.specs.Naming.{nameInForce, placeInForce, isEmpty}
+use Rattle.lot_format.specs.Naming.{Naming, named, unnamed}
+use Rattle.lot_groups.specs.Place.{placeOf}
 
--- where the name of element e starts, from where the label and the names start: each a block of memory and a place in it
-abbrev pub placeOf : ℕ × ℕ → ℕ × ℕ → List Group → ℕ → ℕ × ℕ
-placeOf label names gs e = elim (isEmpty (nameInForce [] gs e)) [ true ↦ label | false ↦ (names .0, placeInForce 0 0 gs e + names .1) ]
+abbrev pub placeGiven : ℕ × ℕ → ℕ × ℕ → List Group → ℕ → Naming → ℕ × ℕ
+placeGiven label names gs e (named name) = placeOf label names gs e
+placeGiven label names gs e (unnamed r) = label

@@ -11,7 +11,7 @@ use lib.IntN.{ℤ}
 use Rattle.lot_format.specs.Numbers.{bits, numberBytes, unsignedBytes, signedBytes}
 use Rattle.lot_format.specs.Format.{Group, Lot, Mark, ND, HX, LB, GR, EN, entryBytes, entries, nodeEntries, elementEntries, groupedEntries, written}
 use Rattle.lot_format.specs.Runs.{Runs, namesOf, offsetsOf, groupsOf, lotFrom}
-use Rattle.lot_format.specs.Writing.{rising}
+use Rattle.lot_format.specs.Groups.{rising}
 use Rattle.lot_format.specs.RunLaws.{Fitting, names-back, lengths-back, offsets-back}
 use Rattle.lot_format.specs.Lawful.{rising-low, rising-high, rising-rest}
 

@@ -16,7 +16,7 @@ use Rattle.lot_format.specs.Numbers.{unsignedBytes, signedBytes}
 use Rattle.lot_format.specs.Format.{FileLimits, Group, Lot, Mark, LB, ND, HX, GR, EN, rightLength, Stage, atLabel, atNodes, atElements, atEnd, inPlace, stageAfter, entryBytes, entries, nodeEntries, elementEntries, groupedEntries, written}
 use Rattle.lot_format.specs.Runs.{offsetsOf}
 use Rattle.lot_format.specs.Reading.{nameFault, bodyFault, joined, taken, readable, noLot, readLot}
-use Rattle.lot_format.specs.Writing.{rising}
+use Rattle.lot_format.specs.Groups.{rising}
 use Rattle.lot_format.specs.Joined.{joined-none, joined-assoc}
 use Rattle.lot_format.specs.Steps.{read-start}
 use Rattle.lot_format.specs.Lawful.{LawfulName, Lawful, rising-low, rising-high, rising-rest}

@@ -11,7 +11,7 @@ use lib.Signed.{mag}
 use Rattle.foundation.specs.Lists.{All, all-left, all-right, all-map, all-concat, sum}
 use Rattle.lot_format.specs.Format.{FileLimits, Group, Lot, nameByte, nameBytes, written}
 use Rattle.lot_format.specs.Runs.{Runs, namesOf, lengthsOf, runsOf, groupsOf, lotFrom}
-use Rattle.lot_format.specs.Writing.{rising, allUpTo}
+use Rattle.lot_format.specs.Groups.{rising, allUpTo}
 use Rattle.lot_format.specs.RunLaws.{Fitting, names-back, lengths-back, offsets-back, lot-back}
 use Rattle.lot_format.specs.Lawful.{LawfulName, Lawful}
 use Rattle.lot_roundtrip_theory.specs.Tests.{both-true, true-both, Writable}

@@ -11,7 +11,8 @@ use lib.ListN.{getD, length, drop}
 use Rattle.foundation.specs.Lists.{All, sum}
 use Rattle.lot_format.specs.Format.{FileLimits, nameBytes, written}
 use Rattle.lot_format.specs.Runs.{Runs, lotFrom}
-use Rattle.lot_format.specs.Writing.{rising, fitTogether, allUpTo, Unwritable, noRoom, Test, tests, firstFailed, Writing, file, unwritten, writing}
+use Rattle.lot_format.specs.Groups.{Test, firstFailed, rising, fitTogether, allUpTo}
+use Rattle.lot_format.specs.Writing.{Unwritable, noRoom, tests, Writing, file, unwritten, writing}
 
 -- ---- tests of two parts
 pub both-true : (a b : Bool) → a ≡ true → b ≡ true → (a && b) ≡ true
@@ -22,26 +23,26 @@ true-both true b e = (refl, e)
 true-both false b e = (e, cc)
 
 -- ---- a list of tests
-abbrev pub Passed : Test → Type 0
+abbrev pub Passed : Test Unwritable → Type 0
 Passed t = t .passed ≡ true
 
-all-passed : (ts : List Test) → All Passed ts → firstFailed ts ≡ none
+all-passed : (ts : List (Test Unwritable)) → All Passed ts → firstFailed ts ≡ none
 all-passed [] h = refl
 all-passed (t ∷ ts) h = rw (h .0, firstFailed) (all-passed ts (h .1))
 
 -- the tests from the n-th on, where those before it passed
-module _ (d : Test) where
-  one-passed : (n : ℕ) (ts : List Test) → n < length ts → getD ts n d .passed ≡ true → firstFailed (drop n ts) ≡ firstFailed (drop (suc n) ts)
+module _ (d : Test Unwritable) where
+  one-passed : (n : ℕ) (ts : List (Test Unwritable)) → n < length ts → getD ts n d .passed ≡ true → firstFailed (drop n ts) ≡ firstFailed (drop (suc n) ts)
   one-passed n [] h e = absurd (omega arith)
   one-passed zero (t ∷ ts) h e = rw (e, firstFailed)
   one-passed (suc n) (t ∷ ts) h e = one-passed n ts (omega arith) e
 
-  one-failed : (n : ℕ) (ts : List Test) → n < length ts → getD ts n d .passed ≡ false → firstFailed (drop n ts) ≡ some (getD ts n d .otherwise)
+  one-failed : (n : ℕ) (ts : List (Test Unwritable)) → n < length ts → getD ts n d .passed ≡ false → firstFailed (drop n ts) ≡ some (getD ts n d .otherwise)
   one-failed n [] h e = absurd (omega arith)
   one-failed zero (t ∷ ts) h e = rw (e, firstFailed)
   one-failed (suc n) (t ∷ ts) h e = one-failed n ts (omega arith) e
 
-none-failed : (ts : List Test) → firstFailed ts ≡ none → All Passed ts
+none-failed : (ts : List (Test Unwritable)) → firstFailed ts ≡ none → All Passed ts
 none-failed [] e = tt
 none-failed (t ∷ ts) e = go (t .passed) refl e (none-failed ts)
   where
@@ -65,10 +66,10 @@ pub record Writable (F : FileLimits) (x : Runs) (room : ℕ) : Type 0 where
   pub fits : length (written (lotFrom x)) ≤ room
 
 -- groups that fit together
-pub together-parts : (x : Runs) → fitTogether x ≡ true → (length (x .lengths) ≡ length (x .offsets)) × (sum (x .lengths) ≡ length (x .names)) × (rising 0 (length (x .elements) / 8) (x .offsets) ≡ true)
-together-parts x e =
-    let pairs = true-both (eqb (length (x .lengths)) (length (x .offsets))) _ e in
-    let sums = true-both (eqb (sum (x .lengths)) (length (x .names))) _ (pairs .1) in
+pub together-parts : (lengths offsets : List ℕ) (names elements : ℕ) → fitTogether lengths offsets names elements ≡ true → (length lengths ≡ length offsets) × (sum lengths ≡ names) × (rising 0 elements offsets ≡ true)
+together-parts lengths offsets names elements e =
+    let pairs = true-both (eqb (length lengths) (length offsets)) _ e in
+    let sums = true-both (eqb (sum lengths) names) _ (pairs .1) in
     (eqb-true _ _ (pairs .0), eqb-true _ _ (sums .0), sums .1)
 
 module _ (F : FileLimits) (x : Runs) (room : ℕ) where
@@ -79,7 +80,7 @@ module _ (F : FileLimits) (x : Runs) (room : ℕ) where
       let fifth = fourth .1 in
       let sixth = fifth .1 in
       let seventh = sixth .1 in
-      let fit = together-parts x (third .0) in
+      let fit = together-parts (x .lengths) (x .offsets) (length (x .names)) (length (x .elements) / 8) (third .0) in
       let shorts = true-both (leb (length (x .label)) (F .name)) (allUpTo (F .name) (x .lengths)) (fourth .0) in
       let names = true-both (nameBytes (x .label)) (nameBytes (x .names)) (fifth .0) in
       record {
@@ -121,7 +122,7 @@ module _ (F : FileLimits) (x : Runs) (room : ℕ) where
   pub record PassedUpTo (n : ℕ) : Type 0 where
     pub so-far : firstFailed (tests F x room) ≡ firstFailed (drop n (tests F x room))
 
-  abbrev pub test : ℕ → Test
+  abbrev pub test : ℕ → Test Unwritable
   test n = getD (tests F x room) n (record { passed = true; otherwise = noRoom })
 
   pub none-tested : PassedUpTo 0

@@ -3,14 +3,11 @@
 // All is tested first, in the order of the definitions' `tests`; then the file is written entry by entry.
 
 ghost use mathlib.Core.Path.{_≡_};
-ghost use mathlib.Core.Bool.{_&&_};
-ghost use lib.Dec.{eqb, leb};
 ghost use lib.ListN.{length};
-ghost use Rattle.foundation.specs.Lists.{sum};
 ghost use Rattle.foundation.specs.Laid.{laidOver};
-ghost use Rattle.lot_format.specs.Format.{lotFile, nameBytes, written};
+ghost use Rattle.lot_format.specs.Format.{lotFile, written};
 ghost use Rattle.lot_format.specs.Runs.{lotFrom};
-ghost use Rattle.lot_format.specs.Writing.{rising, allUpTo, writing, fileOf};
+ghost use Rattle.lot_format.specs.Writing.{writing, fileOf};
 ghost use Rattle.lot_roundtrip_theory.specs.Lengths.{lengthBy};
 ghost use Rattle.lot_roundtrip_theory.specs.Tests.{Writable};
 ghost use Rattle.bytes_output.specs.Behind.{Laid};
@@ -32,84 +29,6 @@ pub enum Unwritable {
 pub enum Written {
     Length(usize),
     Refused(Unwritable),
-}
-
-// Whether lengths add up to n.
-fn add_up(lengths: &[u32], n: usize) -> bool
-    ensures { λ r. ⌜ r ≡ eqb (sum (now (lengths .entry))) n ⌝ }
-{
-    let mut left = n;
-    for k in 0..lengths.len() {
-        let length = lengths[k] as usize;
-        if left < length {
-            return false;
-        }
-        left -= length;
-    }
-    left == 0
-}
-
-// Whether counts don't fall and don't pass n.
-fn rise(offsets: &[u32], n: usize) -> bool
-    ensures { λ r. ⌜ r ≡ rising 0 n (now (offsets .entry)) ⌝ }
-{
-    let mut low = 0;
-    for k in 0..offsets.len() {
-        let before = offsets[k] as usize;
-        if before < low {
-            return false;
-        }
-        if n < before {
-            return false;
-        }
-        low = before;
-    }
-    true
-}
-
-// Whether no length passes n.
-fn up_to(lengths: &[u32], n: usize) -> bool
-    ensures { λ r. ⌜ r ≡ allUpTo n (now (lengths .entry)) ⌝ }
-{
-    for k in 0..lengths.len() {
-        if n < lengths[k] as usize {
-            return false;
-        }
-    }
-    true
-}
-
-// Whether groups fit together, where there are so many bytes of names and so many elements.
-fn fit_together(lengths: &[u32], offsets: &[u32], names: usize, elements: usize) -> bool
-    ensures { λ r. ⌜ r ≡ (eqb (length (now (lengths .entry))) (length (now (offsets .entry))) && (eqb (sum (now (lengths .entry))) names && rising 0 elements (now (offsets .entry)))) ⌝ }
-{
-    if lengths.len() != offsets.len() {
-        return false;
-    }
-    if !add_up(lengths, names) {
-        return false;
-    }
-    rise(offsets, elements)
-}
-
-// Whether the label and the names are short enough.
-fn short_names(label: usize, lengths: &[u32]) -> bool
-    ensures { λ r. ⌜ r ≡ (leb label (lotFile .name) && allUpTo (lotFile .name) (now (lengths .entry))) ⌝ }
-{
-    if limits::MAX_NAME < label {
-        return false;
-    }
-    up_to(lengths, limits::MAX_NAME)
-}
-
-// Whether all bytes of the label and of the names may stand there.
-fn clean_names(label: &[u8], names: &[u8]) -> bool
-    ensures { λ r. ⌜ r ≡ (nameBytes (now (label .entry)) && nameBytes (now (names .entry))) ⌝ }
-{
-    if !lot_entry_reader::name_bytes(label) {
-        return false;
-    }
-    lot_entry_reader::name_bytes(names)
 }
 
 // A number, or 65,537 where it is larger.
@@ -148,15 +67,15 @@ fn tested(
     if elements.len() % 8 != 0 {
         return Written::Refused(Unwritable::PartialElement);
     }
-    let together = fit_together(lengths, offsets, names.len(), elements.len() / 8);
-    let short = short_names(label.len(), lengths);
+    let together = lot_groups::fit_together(lengths, offsets, names.len(), elements.len() / 8);
+    let short = lot_groups::short_names(label.len(), lengths);
     if !together {
         return Written::Refused(Unwritable::GroupsApart);
     }
     if !short {
         return Written::Refused(Unwritable::NameTooLong);
     }
-    if !clean_names(label, names) {
+    if !lot_groups::clean_names(label, names) {
         return Written::Refused(Unwritable::BadByte);
     }
     if limits::MAX_ELEMENTS < elements.len() / 8 {

@@ -29,7 +29,7 @@ fn element_lines<'a>(
     let mut next = at;
     for e in 0..n {
         let element = e as u32;
-        let name = lot_naming::name_of(label, names, lengths, offsets, element);
+        let name = lot_groups::name_of(label, names, lengths, offsets, element);
         let start = 8 * e;
         next = slip_lines::element_line(out, next, element, name, &report[start..start + 8]);
     }

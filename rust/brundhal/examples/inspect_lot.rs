@@ -4,21 +4,23 @@
 
 #![deny(warnings)]
 
-use brundhal::{GroupSpace, Groups, Inspection};
+use brundhal::{GroupSpace, Groups, Inspection, Lot};
 use std::process::ExitCode;
 
 /// Each element's name, a part of the lot's names or its label, and its verdict.
-fn print_elements(label: &[u8], groups: Groups, report: &[i64]) {
+fn print_elements(lot: Lot, groups: Groups, report: &[i64]) -> Result<(), String> {
     for (element, record) in (0..).zip(report.chunks_exact(brundhal::RECORD_WORDS)) {
-        let name = brundhal::name_of(label, groups, element).bytes().escape_ascii();
+        let name = brundhal::name_of(lot.label, groups, lot.elements, element)
+            .map_err(|number| format!("name refused {number}"))?;
         let verdict = match record[0] {
             0 => "valid",
             1 => "invalid",
             2 => "undecided",
             _ => "refused",
         };
-        println!("element {} of {name}: {verdict}", element + 1);
+        println!("element {} of {}: {verdict}", element + 1, name.bytes().escape_ascii());
     }
+    Ok(())
 }
 
 fn print_counts(answer: Inspection) {
@@ -58,7 +60,7 @@ fn inspect(file: &[u8]) -> Result<(), String> {
         lengths: &lengths[..lot.groups as usize],
         offsets: &offsets[..lot.groups as usize],
     };
-    print_elements(lot.label, groups, &report);
+    print_elements(lot, groups, &report)?;
     print_counts(answer);
 
     let mut written = vec![0; brundhal::LOT_BYTES];

@@ -186,6 +186,7 @@ mod raw {
 
     #[repr(C)]
     pub struct Name {
+        pub number: u32,
         pub grouped: u32,
         pub start: usize,
         pub len: usize,
@@ -245,6 +246,7 @@ mod raw {
             lengths_len: usize,
             offsets: *const u32,
             offsets_len: usize,
+            elements: u32,
             element: u32,
         ) -> Name;
         pub fn brundhal_slip(file: *const u8, file_len: usize, out: *mut [u8; SLIP_BYTES])
@@ -358,11 +360,18 @@ pub fn write_lot(
     }
 }
 
-/// The name that an element, counted from 0, bears in a lot with this label and
-/// these groups.
-pub fn name_of<'a>(label: &'a [u8], groups: Groups<'a>, element: u32) -> Name<'a> {
+/// The name that an element, counted from 0, bears in a lot with this label, these
+/// groups and this many elements; or the number of the refusal: 24 for groups that
+/// do not fit together, 23 for a label or name that is too long, 25 for a wrong byte
+/// in them, 28 if there is no such element.
+pub fn name_of<'a>(
+    label: &'a [u8],
+    groups: Groups<'a>,
+    elements: u32,
+    element: u32,
+) -> Result<Name<'a>, u32> {
     // Slices that are borrowed for the call, with their own lengths, and only read.
-    let raw::Name { grouped, start, len } = unsafe {
+    let raw::Name { number, grouped, start, len } = unsafe {
         raw::brundhal_name(
             label.as_ptr(),
             label.len(),
@@ -372,13 +381,15 @@ pub fn name_of<'a>(label: &'a [u8], groups: Groups<'a>, element: u32) -> Name<'a
             groups.lengths.len(),
             groups.offsets.as_ptr(),
             groups.offsets.len(),
+            elements,
             element,
         )
     };
-    match grouped {
-        0 => Name::Label(&label[start..][..len]),
-        1 => Name::Group(&groups.names[start..][..len]),
-        other => unreachable!("the library's name says 0 or 1, not {other}"),
+    match (number, grouped) {
+        (0, 0) => Ok(Name::Label(&label[start..][..len])),
+        (0, 1) => Ok(Name::Group(&groups.names[start..][..len])),
+        (0, other) => unreachable!("the library's name says 0 or 1, not {other}"),
+        (number, _) => Err(number),
     }
 }
 

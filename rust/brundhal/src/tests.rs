@@ -31,7 +31,8 @@ fn empty_runs_are_taken() {
     let mut file = [0; 8];
     assert_eq!(write_lot(&[], &[], &[], none(), &mut file), Written { number: 0, len: 8 });
     assert_eq!(file, EMPTY);
-    assert_eq!(name_of(&[], none(), 0), Name::Label(b""));
+    assert_eq!(name_of(&[], none(), 1, 0), Ok(Name::Label(b"")));
+    assert_eq!(name_of(&[], none(), 0, 0), Err(28));
 }
 
 #[test]
@@ -280,20 +281,41 @@ fn lots_that_are_not_written() {
 fn names() {
     let (label, names) = (&b"L"[..], &b"onethree"[..]);
     let groups = Groups { names, lengths: &[3, 0, 5], offsets: &[1, 2, 3] };
-    let named = |element: u32| name_of(label, groups, element);
-    assert_eq!([0, 2].map(named), [Name::Label(b"L"); 2]);
-    assert_eq!([1, 3].map(named), [Name::Group(b"one"), Name::Group(b"three")]);
-    assert_eq!(named(u32::MAX).bytes(), b"three");
-    assert_eq!(named(0).bytes().as_ptr_range(), label.as_ptr_range());
-    assert_eq!(named(3).bytes().as_ptr_range(), names[3..].as_ptr_range());
+    let named = |element: u32| name_of(label, groups, 5, element);
+    assert_eq!([0, 2].map(named), [Ok(Name::Label(b"L")); 2]);
+    assert_eq!([1, 3, 4].map(|n| named(n).unwrap().bytes()), [&b"one"[..], b"three", b"three"]);
+    assert_eq!(named(0).unwrap().bytes().as_ptr_range(), label.as_ptr_range());
+    assert_eq!(named(3).unwrap().bytes().as_ptr_range(), names[3..].as_ptr_range());
+    assert_eq!([5, u32::MAX].map(named), [Err(28); 2]);
 }
 
-/// Names that do not reach as far as their lengths say.
+/// A refusal is its number, and all else 0.
 #[test]
-fn names_that_are_cut() {
-    let groups = Groups { names: b"ab", lengths: &[1, u32::MAX, 9], offsets: &[0, 1, 2, 3] };
-    assert_eq!(name_of(b"L", groups, 1), Name::Group(b"b"));
-    assert_eq!(name_of(b"L", groups, 3), Name::Label(b"L"));
+fn elements_that_are_not_named() {
+    let long = [b'\n'; 33];
+    let apart = Groups { lengths: &[1], ..GROUPS };
+    let asked: [(u32, &[u8], Groups); 4] =
+        [(24, &long, apart), (23, &long, GROUPS), (25, b"\n", GROUPS), (28, b"L", GROUPS)];
+    for (number, label, Groups { names, lengths, offsets }) in asked {
+        let groups = Groups { names, lengths, offsets };
+        assert_eq!(name_of(label, groups, 1, 1), Err(number));
+        // Borrowed slices with their own lengths, as in `name_of`.
+        let raw::Name { number: told, grouped, start, len } = unsafe {
+            raw::brundhal_name(
+                label.as_ptr(),
+                label.len(),
+                names.as_ptr(),
+                names.len(),
+                lengths.as_ptr(),
+                lengths.len(),
+                offsets.as_ptr(),
+                offsets.len(),
+                1,
+                1,
+            )
+        };
+        assert_eq!((told, grouped, start, len), (number, 0, 0, 0));
+    }
 }
 
 #[test]

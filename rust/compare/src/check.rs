@@ -357,8 +357,11 @@ pub fn ask(first: Program, second: Program, question: &Question) -> Result<Vec<i
             }
             Ok(words)
         }
-        Question::Name { element, label, groups } => {
-            let ask = |program: Program| lots::name_words(program.names, label, groups, *element);
+        Question::Name { elements, element, label, groups } => {
+            let ask = |program: Program| {
+                let answer = program.names.name_of(label, groups, *elements, *element);
+                lots::name_words(answer, label, groups)
+            };
             compared(question, ask, first, second)
         }
         Question::Slip { file } => {

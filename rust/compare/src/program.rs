@@ -97,7 +97,14 @@ pub trait Writes: Sync {
 }
 
 pub trait Names: Sync {
-    fn name_of<'a>(&self, label: &'a [u8], groups: &'a Groups, element: u32) -> Name<'a>;
+    /// The name of an element of so many, or the number of the refusal.
+    fn name_of<'a>(
+        &self,
+        label: &'a [u8],
+        groups: &'a Groups,
+        elements: u32,
+        element: u32,
+    ) -> Result<Name<'a>, u32>;
 }
 
 pub trait Prints: Sync {
@@ -199,8 +206,14 @@ impl Writes for Product {
 }
 
 impl Names for Product {
-    fn name_of<'a>(&self, label: &'a [u8], groups: &'a Groups, element: u32) -> Name<'a> {
-        brundhal::name_of(label, lent_groups(groups), element)
+    fn name_of<'a>(
+        &self,
+        label: &'a [u8],
+        groups: &'a Groups,
+        elements: u32,
+        element: u32,
+    ) -> Result<Name<'a>, u32> {
+        brundhal::name_of(label, lent_groups(groups), elements, element)
     }
 }
 
@@ -348,11 +361,17 @@ impl Writes for Second {
 }
 
 impl Names for Second {
-    fn name_of<'a>(&self, label: &'a [u8], groups: &'a Groups, element: u32) -> Name<'a> {
-        match groups.name_of(element) {
+    fn name_of<'a>(
+        &self,
+        label: &'a [u8],
+        groups: &'a Groups,
+        elements: u32,
+        element: u32,
+    ) -> Result<Name<'a>, u32> {
+        Ok(match groups.named(label, elements, element)? {
             Some(place) => Name::Group(&groups.names[place]),
             None => Name::Label(label),
-        }
+        })
     }
 }
 

@@ -52,8 +52,10 @@ pub enum Question {
         space: usize,
         lot: Lot,
     },
-    /// The name of an element, counted from 0, with any label and groups.
+    /// The name of an element, counted from 0, of `elements`, with any label and
+    /// groups.
     Name {
+        elements: u32,
         element: u32,
         label: Vec<u8>,
         groups: Groups,
@@ -126,8 +128,8 @@ impl fmt::Display for Question {
                 put_run(f, &lot.elements)?;
                 put_groups(f, &lot.groups)
             }
-            Question::Name { element, label, groups } => {
-                write!(f, "name {element}")?;
+            Question::Name { elements, element, label, groups } => {
+                write!(f, "name {elements} {element}")?;
                 put_run(f, label)?;
                 put_groups(f, groups)
             }
@@ -189,9 +191,12 @@ impl Numbers<'_> {
             "stamp" => Question::Stamp { answer: self.array()? },
             "read" => Question::Read { space: self.array()?, file: self.run()? },
             "write" => Question::Write { space: self.one()?, lot: self.lot()? },
-            "name" => {
-                Question::Name { element: self.one()?, label: self.run()?, groups: self.groups()? }
-            }
+            "name" => Question::Name {
+                elements: self.one()?,
+                element: self.one()?,
+                label: self.run()?,
+                groups: self.groups()?,
+            },
             "slip" => Question::Slip { file: self.run()? },
             _ => return None,
         };

@@ -595,6 +595,7 @@ fn questions_read_back() {
         Question::Write { space: 7, lot: Lot::new(b"~", &[[-1; 3]], &[[7; 8]]).group(1, b"") },
         Question::Write { space: 99, lot: Lot { nodes: vec![i32::MIN], ..Lot::default() } },
         Question::Name {
+            elements: 1,
             element: u32::MAX,
             label: b"ab".to_vec(),
             groups: Groups { names: vec![255], lengths: vec![0, 9], offsets: vec![u32::MAX] },
@@ -614,7 +615,7 @@ fn questions_read_back() {
         "inspect 0 0 1",
         "read 0 0 0 0 0 1 256",
         "write 0 0 0 0 0 0",
-        "name 0 0 0 0 0 0",
+        "name 0 0 0 0 0 0 0",
         "slip 1 -1",
         "sound",
     ];

@@ -1,5 +1,5 @@
-//! The lot files of document 02, No. 1 and No. 2: what they hold, a plain reader,
-//! and in `writing` a plain writer.
+//! The lot files of document 02, No. 1 and No. 2: what they hold, a plain namer of
+//! elements, a plain reader, and in `writing` a plain writer.
 //!
 //! The reader takes the records in turn and keeps what they hold in memory of
 //! its own; only when nothing is left to refuse is it handed out.
@@ -122,6 +122,49 @@ impl Groups {
     pub fn name_of(&self, element: u32) -> Option<Range<usize>> {
         let (_, name) = self.each().filter(|(before, _)| *before <= element).last()?;
         (!name.is_empty()).then_some(name)
+    }
+
+    /// 01: "lists of different length, lengths that don't add up to the names, or a
+    /// count that falls or passes the elements, are 24."
+    fn fit_together(&self, elements: usize) -> bool {
+        let Groups { names, lengths, offsets } = self;
+        let sum: u128 = lengths.iter().map(|&length| u128::from(length)).sum();
+        lengths.len() == offsets.len()
+            && sum == names.len() as u128
+            && offsets.windows(2).all(|pair| pair[0] <= pair[1])
+            && offsets.iter().all(|&before| before as usize <= elements)
+    }
+
+    /// The refusal of groups handed in with a label and this many elements, if there
+    /// is one.
+    fn tested(&self, label: &[u8], elements: usize) -> Result<(), u32> {
+        if !self.fit_together(elements) {
+            return Err(24);
+        }
+        let longest_name = self.each().map(|(_, name)| name.len()).max().unwrap_or(0);
+        if label.len().max(longest_name) > MOST_NAME_BYTES {
+            return Err(23); // 01: "a longer one handed in is 23"
+        }
+        if label.iter().chain(&self.names).any(is_wrong) {
+            return Err(25); // 01: "then a wrong byte in it 25"
+        }
+        Ok(())
+    }
+
+    /// Names an element, counted from 0, of this many with this label: `name_of`, or
+    /// the number of the refusal.  28 is ours, and tested last: there is no such
+    /// element.
+    pub fn named(
+        &self,
+        label: &[u8],
+        elements: u32,
+        element: u32,
+    ) -> Result<Option<Range<usize>>, u32> {
+        self.tested(label, elements as usize)?;
+        if element >= elements {
+            return Err(28);
+        }
+        Ok(self.name_of(element))
     }
 }
 

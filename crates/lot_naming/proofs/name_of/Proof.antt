@@ -1,29 +1,25 @@
--- `name_of` meets its contract: by whether the part in force is empty. Assumes nothing.
+-- `name_of` meets its contract: by whether the number that answers is 0. Assumes nothing.
 use mathlib.Core.Path.{_≡_, sym, _∙_, ap}
-use Prim.Native.Nat.{ℕ, _+_, _-_}
+use mathlib.Core.List.{List, [], _∷_}
+use Prim.Native.Nat.{ℕ, _+_}
 use native.Mathlib.Omega.{arith}
 use borrow.Author.Needs.{needs}
-use lib.ListN.{length, take, drop, length-drop}
-use lib.Seq.{length-take-le}
+use Rattle.lot_format.specs.Format.{lotFile, Group}
 use Rattle.lot_format.specs.Runs.{groupsOf}
-use Rattle.lot_naming.proofs.Laws.{bears-label, bears-name}
+use Rattle.lot_format.specs.Naming.{Naming, naming, nameGiven, namingNumber}
+use Rattle.lot_naming.specs.Place.{placeGiven}
+use Rattle.lot_naming.specs.Answers.{zero-named, other-nothing, other-place}
 use Rattle.lot_naming.proofs.name_of.Statement.{statement}
 use Rattle.lot_naming.proofs.name_of.Tie as tie
 
-part-in-force-requires : tie.Need-part-in-force-requires
-part-in-force-requires c κs = search needs
+abbrev asked : tie.Start → Naming
+asked s = naming lotFile (s .args .label .now) (s .args .names .now) (s .args .lengths .now) (s .args .offsets .now) (s .args .elements) (s .args .element)
 
-returns : tie.Need-returns
-returns c =
-    let p = c .before .part-in-force in
-    let s = c .before .before .before .before .before .before in
-    let gs = groupsOf (s .args .names .now) (s .args .lengths .now) (s .args .offsets .now) in
-    let none = sym (p .ensures .1 .0) ∙ ap (λ (n : ℕ). take n (drop (p .result .start) (s .args .names .now))) (c .if1 .taken) in
-    let answer = bears-label (s .args .label .now) (s .args .label .ptr) (s .args .names .ptr) gs (s .args .element) none in
-    (sym (answer .0), sym (answer .1))
+abbrev groupsIn : tie.Start → List Group
+groupsIn s = groupsOf (s .args .names .now) (s .args .lengths .now) (s .args .offsets .now)
 
-add-end : tie.Need-add-end
-add-end c = search needs
+refusal-of-requires : tie.Need-refusal-of-requires
+refusal-of-requires c κs = search needs
 
 sub-result : tie.Need-sub-result
 sub-result c = search needs
@@ -34,28 +30,34 @@ part-result-start c = search needs
 part-result-end : tie.Need-part-result-end
 part-result-end c = search needs
 
+returns : tie.Need-returns
+returns c =
+    let s = c .before .before .before .before .before .before .before .before in
+    let number = c .before .before .before .refusal-of .ensures in
+    let other : namingNumber (asked s) ≡ 0 → ⊥ = λ z. c .before .if1 .taken (number ∙ z) in
+    let front : 0 + s .args .label .ptr .1 ≡ s .args .label .ptr .1 = omega arith in
+    (sym (other-nothing (asked s) other), (ap (λ (n : ℕ). n ∷ []) number, ap (λ (k : ℕ). (s .args .label .ptr .0, k)) front ∙ sym (other-place (s .args .label .ptr) (s .args .names .ptr) (groupsIn s) (s .args .element) (asked s) other)))
+
+name-of-requires : tie.Need-name-of-requires
+name-of-requires c κs = search needs
+
 returns-2 : tie.Need-returns-2
 returns-2 c =
-    let p = c .before .before .part-in-force in
-    let s = c .before .before .before .before .before .before .before in
-    let names = s .args .names .now in
-    let gs = groupsOf names (s .args .lengths .now) (s .args .offsets .now) in
-    let long : length (take (p .result .len) (drop (p .result .start) names)) ≡ p .result .len = length-take-le (p .result .len) (drop (p .result .start) names) (simp length-drop (omega arith)) in
-    let some = rw (p .ensures .1 .0) at long in
-    let answer = bears-name (s .args .label .now) (s .args .label .ptr) (s .args .names .ptr) gs (s .args .element) (omega (arith, c .before .if1 .left)) in
-    let e : p .result .start + p .result .len - p .result .start ≡ p .result .len = omega arith in (
-      ap (λ (n : ℕ). take n (drop (p .result .start) names)) e ∙ p .ensures .1 .0 ∙ sym (answer .0),
-      ap (λ (n : ℕ). (s .args .names .ptr .0, n + s .args .names .ptr .1)) (p .ensures .1 .1) ∙ sym (answer .1),
+    let s = c .before .before .before .before .before .before .before .before in
+    let number = c .before .before .before .refusal-of .ensures in
+    let answer = zero-named lotFile (s .args .label .now) (s .args .names .now) (s .args .lengths .now) (s .args .offsets .now) (s .args .elements) (s .args .element) (sym number ∙ c .before .if1 .left) in (
+      c .name-of .ensures .0 ∙ sym (ap nameGiven answer),
+      (ap (λ (n : ℕ). n ∷ []) number, c .name-of .ensures .1 ∙ sym (ap (placeGiven (s .args .label .ptr) (s .args .names .ptr) (groupsIn s) (s .args .element)) answer)),
     )
 
 pub name-of-spec : {M : Type 1} → statement M
 name-of-spec =
     tie.close
     (tie.spec
-    part-in-force-requires
-    returns
-    add-end
+    refusal-of-requires
     sub-result
     part-result-start
     part-result-end
+    returns
+    name-of-requires
     returns-2)

@@ -1,14 +1,15 @@
 -- `tested` meets its contract: test by test, those before it passed. Assumes nothing.
 use mathlib.Core.Path.{_≡_, sym, _∙_, ap}
 use mathlib.Core.Bool.{true, false}
-use Prim.Native.Nat.{ℕ, suc, _<_}
+use Prim.Native.Nat.{ℕ, suc, _/_, _<_}
 use native.Mathlib.Omega.{arith}
 use borrow.Author.Needs.{needs}
 use borrow.Author.Tests.{eq-eqb, ne-eqb, le-leb, lt-leb, not-true, not-false}
 use lib.ListN.{length}
 use Rattle.lot_format.specs.Format.{lotFile, written}
 use Rattle.lot_format.specs.Runs.{Runs, lotFrom}
-use Rattle.lot_format.specs.Writing.{fitTogether, writing}
+use Rattle.lot_format.specs.Groups.{fitTogether}
+use Rattle.lot_format.specs.Writing.{writing}
 use Rattle.lot_roundtrip_theory.specs.Lengths.{runsLength, length-runs}
 use Rattle.lot_roundtrip_theory.specs.Tests.{PassedUpTo, together-parts, test, none-tested, one-more, first-unwritten, all-written}
 use Rattle.lot_writer.specs.Meaning.{runs, lengthIs, refuses, answerOf, capped}
@@ -58,7 +59,7 @@ after1 c = passes (start1 c) 0 (omega arith) (none-tested lotFile (x (start1 c))
 after2 : (c : tie.Else2) → Passed 2 (start2 c)
 after2 c = passes (start2 c) 1 (omega arith) (after1 (c .before)) (eq-eqb _ _ (c .if2 .left))
 
-together : (c : tie.Else3) → fitTogether (x (start3 c)) ≡ true
+together : (c : tie.Else3) → let y = x (start3 c) in fitTogether (y .lengths) (y .offsets) (length (y .names)) (length (y .elements) / 8) ≡ true
 together c = sym (c .before .before .fit-together .ensures) ∙ not-false _ (c .if3 .left)
 
 after3 : (c : tie.Else3) → Passed 3 (start3 c)
@@ -78,7 +79,7 @@ abbrev size : tie.Start → ℕ
 size s = length (written (lotFrom (x s)))
 
 long : (c : tie.Else3) → size (start3 c) ≡ runsLength (x (start3 c))
-long c = let fit = together-parts (x (start3 c)) (together c) in length-runs (x (start3 c)) (c .before .before .before .before .if1 .left) (c .before .before .before .if2 .left) (fit .0, fit .1) (fit .2)
+long c = let y = x (start3 c) in let fit = together-parts (y .lengths) (y .offsets) (length (y .names)) (length (y .elements) / 8) (together c) in length-runs (x (start3 c)) (c .before .before .before .before .if1 .left) (c .before .before .before .if2 .left) (fit .0, fit .1) (fit .2)
 
 counted : (c : tie.After-file-length) → c .file-length .result ≡ capped (size (start6 (c .before)))
 counted c = c .file-length .ensures ∙ ap capped (sym (long (c .before .before .before .before .before)))

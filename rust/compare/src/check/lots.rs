@@ -3,9 +3,7 @@
 
 use super::lent::{Fenced, Pattern, FENCE};
 use super::Words;
-use crate::program::{
-    Lent, Name, Names, Prints, Program, ReadLot, Reads, SlipSpace, Writes, Written,
-};
+use crate::program::{Lent, Name, Prints, Program, ReadLot, Reads, SlipSpace, Writes, Written};
 use brundhal::SLIP_BYTES;
 use second::lot::{Groups, Lot, Space, ELEMENT_WORDS, HEAD_BYTES, NODE_WORDS};
 use std::ops::Range;
@@ -209,14 +207,18 @@ pub fn not_read_back(program: Program, lot: &Lot, space: usize) -> Option<String
 
 // ------------------------------------------------------ naming and printing --
 
-/// Whose name it is, where it stands there, and its bytes.
-pub fn name_words(program: &dyn Names, label: &[u8], groups: &Groups, element: u32) -> Words {
-    let name = program.name_of(label, groups, element);
+/// The number of a refusal; or 0, whose name it is, where it stands there, and its
+/// bytes.
+pub fn name_words(answer: Result<Name, u32>, label: &[u8], groups: &Groups) -> Words {
+    let mut told = Told::default();
+    told.word("number", answer.err().unwrap_or(0).into());
+    let Ok(name) = answer else {
+        return told.done();
+    };
     let (grouped, of) = match name {
         Name::Group(_) => (1, &groups.names[..]),
         Name::Label(_) => (0, label),
     };
-    let mut told = Told::default();
     told.word("1 for a group's name", grouped);
     told.word("name's place", place_in(of, name.bytes()));
     told.word("name's length", name.bytes().len() as i64);

@@ -67,7 +67,7 @@ fn to_spoil() -> Lot {
 
 /// Each fault alone and beside each other one, in ample space and in none, so that
 /// the order of the tests shows.
-fn faults() -> Vec<Question> {
+pub fn faults() -> Vec<Question> {
     let mut questions = Vec::new();
     for (first, spoil) in SPOILS.iter().enumerate() {
         let mut lot = to_spoil();
@@ -86,7 +86,7 @@ fn faults() -> Vec<Question> {
 }
 
 /// All small lists of lengths and counts, of a lot with two elements.
-fn group_lists() -> Vec<Question> {
+pub fn group_lists() -> Vec<Question> {
     let mut questions = Vec::new();
     for lengths in lists(&[0, 1, 2], 3) {
         for offsets in lists(&[0, 1, 2, 3], 3) {
@@ -101,7 +101,7 @@ fn group_lists() -> Vec<Question> {
 }
 
 /// Lengths whose sum is that of the names only if it is cut to 32 bits.
-fn sums_past_32_bits() -> Vec<Question> {
+pub fn sums_past_32_bits() -> Vec<Question> {
     let lengths: [&[u32]; 6] = [
         &[u32::MAX, 1],
         &[1, u32::MAX],
@@ -120,7 +120,7 @@ fn sums_past_32_bits() -> Vec<Question> {
 }
 
 /// Labels and names of every kind, and far too long ones.
-fn labels_and_names() -> Vec<Question> {
+pub fn labels_and_names() -> Vec<Question> {
     let long = [34, 255, 256, 65_535, 65_536, 65_568].map(|length| vec![b'x'; length]);
     let lots = labels().into_iter().chain(long).flat_map(|label| {
         let as_name = small().group(1, &label).group(1, b"d");
@@ -190,11 +190,16 @@ fn good_lot(shaker: &mut Shaker) -> Question {
 }
 
 /// A good lot with a change or two.
-fn changed_lot(shaker: &mut Shaker) -> Question {
+pub fn random_changed_lot(shaker: &mut Shaker) -> Lot {
     let mut lot = random_lot(shaker);
     for _ in 0..shaker.between(1, 2) {
         change(shaker, &mut lot);
     }
+    lot
+}
+
+fn changed_lot(shaker: &mut Shaker) -> Question {
+    let lot = random_changed_lot(shaker);
     in_any_space(shaker, lot)
 }
 

@@ -302,7 +302,41 @@ fn names_of_elements() {
     assert_eq!((unlabelled.name_of(0), unlabelled.name_of(1)), (&b""[..], &b"one"[..]));
 }
 
-/// Groups of any kind: read as far as both lists go, names cut where they end.
+/// A namer's refusals, each beside all that are tested after it.
+#[test]
+fn elements_that_are_not_named() {
+    let named = |label: &[u8], names: &[u8], lengths: &[u32], offsets: &[u32], element: u32| {
+        let (names, lengths, offsets) = (names.to_vec(), lengths.to_vec(), offsets.to_vec());
+        Groups { names, lengths, offsets }.named(label, 2, element)
+    };
+    assert_eq!(named(b"L", b"ab", &[0, 2], &[0, 1], 0), Ok(None));
+    assert_eq!(named(b"L", b"ab", &[0, 2], &[0, 1], 1), Ok(Some(0..2)));
+    assert_eq!(named(b"", b"", &[], &[], 1), Ok(None));
+    let long = [31; 33];
+    let apart: [(&[u8], &[u32], &[u32]); 8] = [
+        (b"", &[0], &[]),
+        (b"", &[], &[0]),
+        (b"a", &[], &[]),
+        (b"a", &[2], &[0]),
+        (&long, &[32], &[0]),
+        (b"a", &[1, 1 << 31, 1 << 31], &[0, 0, 0]),
+        (b"", &[0, 0], &[1, 0]),
+        (b"", &[0], &[3]),
+    ];
+    for (names, lengths, offsets) in apart {
+        assert_eq!(named(&long, names, lengths, offsets, 2), Err(24));
+    }
+    assert_eq!(named(&long, b"\x7F", &[1], &[2], 2), Err(23));
+    assert_eq!(named(b"\x7F", &long, &[33], &[2], 2), Err(23));
+    assert_eq!(named(b"\x7F", b"", &[0], &[2], 2), Err(25));
+    assert_eq!(named(b"", &long[..32], &[32], &[2], 2), Err(25));
+    assert_eq!(named(b"~", &[b' '; 32], &[32], &[2], 2), Err(28));
+    assert_eq!(named(b"", b"", &[], &[], u32::MAX), Err(28));
+    assert_eq!(Groups::default().named(b"", 0, 0), Err(28));
+}
+
+/// Groups of any kind, untested: read as far as both lists go, names cut where they
+/// end.
 #[test]
 fn names_of_groups_that_do_not_fit_together() {
     let name = |names: &[u8], lengths: &[u32], offsets: &[u32], element: u32| {

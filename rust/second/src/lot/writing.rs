@@ -3,10 +3,7 @@
 //! `write_record` and `Lot::records` write anything, good or not; `write_lot`
 //! refuses what 02 refuses.
 
-use super::{
-    is_wrong, Groups, Lot, Mark, ELEMENT_WORDS, MOST_BYTES, MOST_ELEMENTS, MOST_NAME_BYTES,
-    NODE_WORDS,
-};
+use super::{Lot, Mark, ELEMENT_WORDS, MOST_BYTES, MOST_ELEMENTS, NODE_WORDS};
 
 #[cfg(test)]
 mod tests;
@@ -80,17 +77,6 @@ impl Lot {
 
 // ------------------------------------------------------------------ writer --
 
-/// 01: "lists of different length, lengths that don't add up to the names, or a
-/// count that falls or passes the elements, are 24."
-fn fit_together(groups: &Groups, elements: usize) -> bool {
-    let Groups { names, lengths, offsets } = groups;
-    let sum: u128 = lengths.iter().map(|&length| u128::from(length)).sum();
-    lengths.len() == offsets.len()
-        && sum == names.len() as u128
-        && offsets.windows(2).all(|pair| pair[0] <= pair[1])
-        && offsets.iter().all(|&before| before as usize <= elements)
-}
-
 /// Writes a lot file for lent space of this many bytes; the number of the refusal
 /// if there is one.  02: "in this order and only then".
 pub fn write_lot(lot: &Lot, space: usize) -> Result<Vec<u8>, u32> {
@@ -101,16 +87,8 @@ pub fn write_lot(lot: &Lot, space: usize) -> Result<Vec<u8>, u32> {
         return Err(3);
     }
     let elements = lot.elements.len() / ELEMENT_WORDS;
-    if !fit_together(&lot.groups, elements) {
-        return Err(24); // "24 groups that don't fit together, by 01's house rules"
-    }
-    let longest_name = lot.groups.each().map(|(_, name)| name.len()).max().unwrap_or(0);
-    if lot.label.len().max(longest_name) > MOST_NAME_BYTES {
-        return Err(23); // 01: "a longer one handed in is 23"
-    }
-    if lot.label.iter().chain(&lot.groups.names).any(is_wrong) {
-        return Err(25); // 01: "then a wrong byte in it 25"
-    }
+    // "24 groups that don't fit together, by 01's house rules; 23; 25"
+    lot.groups.tested(&lot.label, elements)?;
     if elements > MOST_ELEMENTS {
         return Err(26);
     }

@@ -2,6 +2,7 @@
 
 use super::*;
 use crate::lot::tests::{read, small, ELEMENT, NODE};
+use crate::lot::Groups;
 
 /// Written with more space than any file takes.
 fn write(lot: &Lot) -> Result<Vec<u8>, u32> {

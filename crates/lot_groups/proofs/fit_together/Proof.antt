@@ -6,8 +6,8 @@ use borrow.Author.Needs.{needs}
 use lib.Dec.{eqb}
 use lib.ListN.{length}
 use Rattle.foundation.specs.Lists.{sum}
-use Rattle.lot_writer.proofs.fit_together.Statement.{statement}
-use Rattle.lot_writer.proofs.fit_together.Tie as tie
+use Rattle.lot_groups.proofs.fit_together.Statement.{statement}
+use Rattle.lot_groups.proofs.fit_together.Tie as tie
 
 returns : tie.Need-returns
 returns c =

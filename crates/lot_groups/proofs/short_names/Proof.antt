@@ -1,8 +1,8 @@
 -- `short_names` meets its contract. Assumes nothing.
 use borrow.Author.Tests.{le-leb, lt-leb}
 use borrow.Author.Needs.{needs}
-use Rattle.lot_writer.proofs.short_names.Statement.{statement}
-use Rattle.lot_writer.proofs.short_names.Tie as tie
+use Rattle.lot_groups.proofs.short_names.Statement.{statement}
+use Rattle.lot_groups.proofs.short_names.Tie as tie
 
 returns : tie.Need-returns
 returns c = rw (lt-leb (c .before .before .args .label) 32 (c .if1 .taken))

@@ -4,10 +4,10 @@ use Prim.Native.Nat.{_-_, _≤_}
 use native.Mathlib.Omega.{arith}
 use borrow.Author.Needs.{needs}
 use lib.ListN.{length, drop}
-use Rattle.lot_format.specs.Writing.{rising}
-use Rattle.lot_writer.proofs.Laws.{rising-falls, rising-passes, rising-next, rising-over}
-use Rattle.lot_writer.proofs.rise.Statement.{statement}
-use Rattle.lot_writer.proofs.rise.Tie as tie
+use Rattle.lot_format.specs.Groups.{rising}
+use Rattle.lot_groups.proofs.Tests.{rising-falls, rising-passes, rising-next, rising-over}
+use Rattle.lot_groups.proofs.rise.Statement.{statement}
+use Rattle.lot_groups.proofs.rise.Tie as tie
 
 abbrev Inv-loop : tie.InvT-loop
 Inv-loop offsets n low₀ k₀ k-end low k = (k ≤ length offsets) × (rising 0 n offsets ≡ rising low n (drop k offsets))

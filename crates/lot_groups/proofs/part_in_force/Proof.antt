@@ -5,9 +5,9 @@ use Prim.Native.Nat.{_-_, _<_, _≤_, min}
 use native.Mathlib.Omega.{arith}
 use borrow.Author.Needs.{needs}
 use lib.ListN.{getD, length}
-use Rattle.lot_naming.proofs.Laws.{Found, found-nothing, found-taken, found-passed, found-name, found-place}
-use Rattle.lot_naming.proofs.part_in_force.Statement.{statement}
-use Rattle.lot_naming.proofs.part_in_force.Tie as tie
+use Rattle.lot_groups.proofs.Names.{Found, found-nothing, found-taken, found-passed, found-name, found-place}
+use Rattle.lot_groups.proofs.part_in_force.Statement.{statement}
+use Rattle.lot_groups.proofs.part_in_force.Tie as tie
 
 abbrev Inv-loop : tie.InvT-loop
 Inv-loop names lengths offsets element part₀ at₀ k₀ k-end part at k = (k ≤ k-end) × (k-end ≡ min (length lengths) (length offsets)) × Found names lengths offsets element (part .start) (part .len) at k

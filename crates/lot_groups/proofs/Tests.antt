@@ -7,7 +7,7 @@ use borrow.Author.Tests.{le-leb, lt-leb, eqb-true, eqb-false, eq-eqb, ne-eqb}
 use lib.Dec.{eqb}
 use lib.ListN.{getD, length, drop, drop-of-length-le}
 use Rattle.foundation.specs.Lists.{drop-next, sum}
-use Rattle.lot_format.specs.Writing.{rising, allUpTo}
+use Rattle.lot_format.specs.Groups.{rising, allUpTo}
 
 -- two tests that pass together
 pub eqb-same : (a b c d : ℕ) → (a ≡ b → c ≡ d) → (c ≡ d → a ≡ b) → eqb a b ≡ eqb c d

@@ -6,10 +6,10 @@ use borrow.Author.Needs.{needs}
 use borrow.Author.Tests.{ne-eqb}
 use lib.ListN.{length, drop}
 use Rattle.foundation.specs.Lists.{sum}
-use Rattle.lot_entry_writer.proofs.Laws.{total-next}
-use Rattle.lot_writer.proofs.Laws.{eqb-same, total-over}
-use Rattle.lot_writer.proofs.add_up.Statement.{statement}
-use Rattle.lot_writer.proofs.add_up.Tie as tie
+use Rattle.lot_format.specs.RunLaws.{total-next}
+use Rattle.lot_groups.proofs.Tests.{eqb-same, total-over}
+use Rattle.lot_groups.proofs.add_up.Statement.{statement}
+use Rattle.lot_groups.proofs.add_up.Tie as tie
 
 abbrev Inv-loop : tie.InvT-loop
 Inv-loop lengths n left₀ k₀ k-end left k = (k ≤ length lengths) × (sum lengths + left ≡ n + sum (drop k lengths))

@@ -4,10 +4,10 @@ use Prim.Native.Nat.{_-_, _≤_}
 use native.Mathlib.Omega.{arith}
 use borrow.Author.Needs.{needs}
 use lib.ListN.{length, drop}
-use Rattle.lot_format.specs.Writing.{allUpTo}
-use Rattle.lot_writer.proofs.Laws.{upTo-passes, upTo-next, upTo-over}
-use Rattle.lot_writer.proofs.up_to.Statement.{statement}
-use Rattle.lot_writer.proofs.up_to.Tie as tie
+use Rattle.lot_format.specs.Groups.{allUpTo}
+use Rattle.lot_groups.proofs.Tests.{upTo-passes, upTo-next, upTo-over}
+use Rattle.lot_groups.proofs.up_to.Statement.{statement}
+use Rattle.lot_groups.proofs.up_to.Tie as tie
 
 abbrev Inv-loop : tie.InvT-loop
 Inv-loop lengths n k₀ k-end k = (k ≤ length lengths) × (allUpTo n lengths ≡ allUpTo n (drop k lengths))

@@ -4,8 +4,8 @@ use mathlib.Core.Bool.{true, false}
 use borrow.Author.Tests.{not-true, not-false}
 use borrow.Author.Needs.{needs}
 use Rattle.lot_format.specs.Format.{nameBytes}
-use Rattle.lot_writer.proofs.clean_names.Statement.{statement}
-use Rattle.lot_writer.proofs.clean_names.Tie as tie
+use Rattle.lot_groups.proofs.clean_names.Statement.{statement}
+use Rattle.lot_groups.proofs.clean_names.Tie as tie
 
 name-bytes-requires : tie.Need-name-bytes-requires
 name-bytes-requires c κs = search needs

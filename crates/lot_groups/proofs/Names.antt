@@ -12,7 +12,7 @@ use Rattle.foundation.specs.Lists.{drop-next}
 use Rattle.lot_format.specs.Format.{Group}
 use Rattle.lot_format.specs.Runs.{groupsOf}
 use Rattle.lot_format.specs.Naming.{nameInForce, placeInForce, isEmpty, nameOf}
-use Rattle.lot_naming.specs.Place.{placeOf}
+use Rattle.lot_groups.specs.Place.{placeOf}
 
 -- ---- one group
 module _ (g : Group) (gs : List Group) (e : ℕ) where
