@@ -6,4 +6,5 @@ pub mod LotBack
 pub mod Tests
 pub mod RunsLawful
 pub mod Promise
+pub mod Named
 pub mod Ample
