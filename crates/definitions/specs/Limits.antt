@@ -12,6 +12,10 @@ pub record Limits : Type 0 where
   -- words of the report for each element
   pub words : ℕ
 
+-- the words of a record; later requests lengthen it
+abbrev pub recordWords : ℕ
+recordWords = 8
+
 -- Document 01, "What the inspector takes".
 abbrev pub base : Limits
 base = record { range = 4096; depth = 3; nodes = 5000; elements = 1000; words = 8 }
