@@ -1,4 +1,5 @@
-// The services for callers in C and Rust: the same answers as plain numbers. include/brundhal.h declares them.
+// The services for callers in C and Rust: the same answers as plain numbers. include/brundhal.h declares them. The structs and what they
+// say: `brundhal_answers`.
 // Nothing has to be checked first. A slice passes as a pointer and a length in elements; a null or an overlapping pointer is the
 // caller's fault, and so is a length that is not that of the memory behind it.
 ghost use mathlib.Core.Path.{_≡_};

@@ -1,6 +1,5 @@
 -- A closer look: the slip of a lot that has no undecided element is the same at every greater depth.
 use mathlib.Core.Path.{_≡_, ap, ap₂}
-use mathlib.Core.Bool.{true, false}
 use mathlib.Core.List.{List}
 use mathlib.Core.Option.{Option, none, some}
 use Prim.Native.Nat.{ℕ, _*_, _/_, _≤_, zero-le}
@@ -16,8 +15,8 @@ use Rattle.definitions.specs.Mesh.{meshRefusalNumber}
 use Rattle.verdict_theory.specs.DepthMonotone.{first}
 use Rattle.verdict_theory.specs.Elements.{element-same}
 use Rattle.lot_format.specs.Format.{FileLimits, Lot}
-use Rattle.lot_format.specs.Reading.{unreadableNumber, tooManyElements, readable, readLot}
-use Rattle.slip_format.specs.Slip.{refusedLine, inspectedSlip, meshSlip, lotSlip, slipOf}
+use Rattle.lot_format.specs.Reading.{readable, readLot}
+use Rattle.slip_format.specs.Slip.{refusedLine, inspectedSlip, meshSlip, slipIf, lotSlip, slipOf}
 
 -- word 0 of a record does not say undecided
 abbrev pub Decided : List ℤ → Type 0
@@ -52,7 +51,7 @@ module _ (L : Limits) (D D′ : ℕ) (further : D ≤ D′) (shallow : D′ ≤ 
 
   same-lot-slip : (most : ℕ) → lotSlip L (record { depth = D′; elements = most }) lot ≡ lotSlip L (record { depth = D; elements = most }) lot
   unfolding lotSlip
-  same-lot-slip most = ap (λ (slip : List ℕ). elim (leb (length (lot .elements) / 8) most) as (λ _. List ℕ) [ false ↦ refusedLine (unreadableNumber tooManyElements) | true ↦ slip ]) same-mesh-slip
+  same-lot-slip most = ap (slipIf (leb (length (lot .elements) / 8) most)) same-mesh-slip
 
   pub same-slip : (F : FileLimits) (most : ℕ) (bytes : List ℕ) → readLot F bytes ≡ readable lot → slipOf L F (record { depth = D′; elements = most }) bytes ≡ slipOf L F (record { depth = D; elements = most }) bytes
   unfolding slipOf

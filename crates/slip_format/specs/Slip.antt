@@ -1,5 +1,5 @@
 -- Document 02, No. 2: the printed slip of a lot.
-use mathlib.Core.Bool.{true, false}
+use mathlib.Core.Bool.{Bool, true, false}
 use mathlib.Core.List.{List, [], _∷_, _++_, map}
 use Prim.Native.Nat.{ℕ, zero, suc, _*_, _/_}
 use lib.Dec.{leb}
@@ -78,9 +78,14 @@ meshSlip L D lot = elim (inspection L (lot .nodes) (lot .elements) (L .words * (
   | meshAccepted n ↦ inspectedSlip (lot .label) (lot .groups) (L .words) (length (lot .elements) / 8) (report L (lot .nodes) (lot .elements) D) n
 ]
 
--- the slip of a lot that was read without fault: one of more elements is refused with 26, as a file of too many is
+-- the slip of a lot, by whether its elements are few enough: one of more is refused with 26, as a file of too many is
+abbrev pub slipIf : Bool → List ℕ → List ℕ
+slipIf true slip = slip
+slipIf false slip = refusedLine (unreadableNumber tooManyElements)
+
+-- the slip of a lot that was read without fault
 unfoldable pub lotSlip : Limits → SlipLimits → Lot → List ℕ
-lotSlip L S lot = elim (leb (length (lot .elements) / 8) (S .elements)) [ false ↦ refusedLine (unreadableNumber tooManyElements) | true ↦ meshSlip L (S .depth) lot ]
+lotSlip L S lot = slipIf (leb (length (lot .elements) / 8) (S .elements)) (meshSlip L (S .depth) lot)
 
 -- "A small program reads a lot from standard input, inspects at depth 3 and prints." The slip of any run of bytes.
 unfoldable pub slipOf : Limits → FileLimits → SlipLimits → List ℕ → List ℕ

@@ -17,7 +17,7 @@ use Rattle.lot_format.specs.Format.{lotFile, Group, Lot}
 use Rattle.lot_format.specs.Reading.{Unreadable, unreadableNumber, tooLong, cutShort, unknownMark, wrongLength, outOfPlace, badByte, tooManyElements, noRoom, Reading, readable, unreadable, readLot}
 use Rattle.lot_format.specs.Lawful.{Lawful, LawfulName}
 use Rattle.lot_format.specs.Accepted.{accepted-lawful}
-use Rattle.slip_format.specs.Slip.{slipLimits, slipBytes, refusedLine, inspectedSlip, meshSlip, lotSlip, slipOf}
+use Rattle.slip_format.specs.Slip.{slipLimits, slipBytes, refusedLine, inspectedSlip, meshSlip, slipIf, lotSlip, slipOf}
 use Rattle.slip_format.specs.Room.{Short, Counted, refused-length, inspected-length}
 use Rattle.slip_room_theory.specs.Words.{report-held}
 
@@ -71,7 +71,7 @@ module _ (lot : Lot) (lawful : Lawful lotFile lot) where
   unfolding lotSlip
   lot-room = go (leb number (slipLimits .elements)) refl
     where
-      go : (b : Bool) → leb number (slipLimits .elements) ≡ b → length {A = ℕ} (elim b [ false ↦ refusedLine (unreadableNumber tooManyElements) | true ↦ meshSlip base (slipLimits .depth) lot ]) ≤ slipBytes
+      go : (b : Bool) → leb number (slipLimits .elements) ≡ b → length (slipIf b (meshSlip base (slipLimits .depth) lot)) ≤ slipBytes
       go false e = refused-room (unreadableNumber tooManyElements) (lot-number tooManyElements)
       go true e = mesh-room (leb-true number (slipLimits .elements) e)
 

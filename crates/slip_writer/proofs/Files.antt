@@ -19,7 +19,7 @@ use Rattle.lot_format.specs.Numbered.{zero-accepted}
 use Rattle.lot_format.specs.Accepted.{reading-accepted}
 use Rattle.lot_roundtrip_theory.specs.Ample.{ample, ample-room}
 use Rattle.lot_reader.specs.Promise.{readOver, Read, asRead, read-runs}
-use Rattle.slip_format.specs.Slip.{slipLimits, refusedLine, meshSlip, lotSlip, slipOf}
+use Rattle.slip_format.specs.Slip.{slipLimits, refusedLine, meshSlip, slipIf, lotSlip, slipOf}
 use Rattle.slip_writer.specs.Counted.{Counted}
 
 -- lent runs that are large enough for any lot
@@ -72,12 +72,9 @@ module _ (file : List ℕ) (lent now : Runs) (answer : List ℕ) (bytes : All By
     count = word 2
 
     -- by whether it has no more elements than a slip prints
-    abbrev lotBy : Bool → List ℕ
-    lotBy b = elim b [ false ↦ refusedLine (unreadableNumber tooManyElements) | true ↦ meshSlip base (slipLimits .depth) lot ]
-
-    lot-by : (b : Bool) → leb (length (lot .elements) / 8) (slipLimits .elements) ≡ b → lotBy b ≡ slipOf base lotFile slipLimits file
+    lot-by : (b : Bool) → leb (length (lot .elements) / 8) (slipLimits .elements) ≡ b → slipIf b (meshSlip base (slipLimits .depth) lot) ≡ slipOf base lotFile slipLimits file
     unfolding lotSlip
-    lot-by b e = sym (ap lotBy e) ∙ sym (slip-by file (readable lot) good)
+    lot-by b e = sym (ap (λ (d : Bool). slipIf d (meshSlip base (slipLimits .depth) lot)) e) ∙ sym (slip-by file (readable lot) good)
 
     pub many-slip : slipLimits .elements < getD answer 2 0 → refusedLine (unreadableNumber tooManyElements) ≡ slipOf base lotFile slipLimits file
     many-slip h = lot-by false (lt-leb (length (lot .elements) / 8) (slipLimits .elements) (omega (arith, count)))

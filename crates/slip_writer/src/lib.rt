@@ -14,14 +14,6 @@ ghost use Rattle.lot_roundtrip_theory.specs.Ample.{ample};
 ghost use Rattle.lot_reader.specs.Promise.{asRead};
 ghost use Rattle.bytes_output.specs.Behind.{Laid};
 ghost use Rattle.slip_writer.specs.Counted.{lent, Counted};
-use limits::AMPLE_ELEMENTS;
-use limits::AMPLE_GROUPS;
-use limits::AMPLE_NAMES;
-use limits::AMPLE_NODES;
-use limits::RECORD_WORDS;
-use limits::SLIP_BYTES;
-use limits::SLIP_ELEMENTS;
-use limits::SLIP_WORDS;
 
 // The slip of a lot that was read into lent runs, by the five numbers of the reading.
 fn read_slip<'a>(
@@ -42,7 +34,7 @@ fn read_slip<'a>(
 {
     let coordinates = 3 * answer[1] as usize;
     let indices = 8 * answer[2] as usize;
-    let words = RECORD_WORDS * answer[2] as usize;
+    let words = limits::RECORD_WORDS * answer[2] as usize;
     let groups = answer[3] as usize;
     let bytes = answer[4] as usize;
     slip_parts::mesh_slip(
@@ -82,7 +74,7 @@ fn file_slip(
         return slip_lines::refused_line(out, at, number);
     }
     let count = answer[2] as usize;
-    if SLIP_ELEMENTS < count {
+    if limits::SLIP_ELEMENTS < count {
         return slip_lines::refused_line(out, at, 26);
     }
     read_slip(
@@ -101,16 +93,16 @@ fn file_slip(
 
 // Writes the slip of a file to the lent space, which is always large enough, and returns how many bytes it has. A file that is no lot has
 // a slip too: the line that says why it is refused.
-pub fn write(file: &[u8], out: &mut [u8; SLIP_BYTES]) -> usize
+pub fn write(file: &[u8], out: &mut [u8; limits::SLIP_BYTES]) -> usize
     ensures { λ r. ⌜ r ≡ length (slipOf base lotFile slipLimits (now (file .entry))) ⌝ }
     ensures { λ r. ⌜ now (out .exit) ≡ laidOver (slipOf base lotFile slipLimits (now (file .entry))) (now (out .entry)) ⌝ }
 {
-    let mut nodes = [0i32; AMPLE_NODES];
-    let mut elements = [0u32; AMPLE_ELEMENTS];
-    let mut names = [0u8; AMPLE_NAMES];
-    let mut lengths = [0u32; AMPLE_GROUPS];
-    let mut offsets = [0u32; AMPLE_GROUPS];
-    let mut report = [0i64; SLIP_WORDS];
+    let mut nodes = [0i32; limits::AMPLE_NODES];
+    let mut elements = [0u32; limits::AMPLE_ELEMENTS];
+    let mut names = [0u8; limits::AMPLE_NAMES];
+    let mut lengths = [0u32; limits::AMPLE_GROUPS];
+    let mut offsets = [0u32; limits::AMPLE_GROUPS];
+    let mut report = [0i64; limits::SLIP_WORDS];
     file_slip(
         out,
         0,
