@@ -1,4 +1,5 @@
-// The services for callers in C and Rust: the same answers as plain numbers. include/brundhal.h declares them.
+// The services for callers in C and Rust: the same answers as plain numbers. include/brundhal.h declares them. The structs and what they
+// say: `brundhal_answers`.
 // Nothing has to be checked first. A slice passes as a pointer and a length in elements; a null or an overlapping pointer is the
 // caller's fault, and so is a length that is not that of the memory behind it.
 ghost use mathlib.Core.Path.{_≡_};
@@ -12,7 +13,7 @@ ghost use Rattle.foundation.specs.Laid.{laidOver};
 ghost use Rattle.lot_format.specs.Runs.{groupsOf};
 ghost use Rattle.lot_format.specs.Naming.{naming, nameGiven};
 ghost use Rattle.lot_format.specs.Writing.{writing, fileOf};
-ghost use Rattle.slip_format.specs.Slip.{slipOf};
+ghost use Rattle.slip_format.specs.Slip.{slipLimits, slipOf};
 ghost use Rattle.lot_writer.specs.Meaning.{runs};
 ghost use Rattle.brundhal_answers.specs.Meaning.{inspectionNumbers, inspectionFields, boundsNumbers, boundsFields, moveNumbers, moveFields, stampTold, lotNumbers, lotFields, writingNumbers, writtenFields, addressHeld, stampFor};
 ghost use Rattle.brundhal.specs.Meaning.{nameFields, nameTold, nameNumbers};
@@ -176,9 +177,9 @@ pub extern "C" fn brundhal_name(
 
 // Writes the slip of a lot file to the front of the lent bytes and returns its length: `slip_writer::write`.
 #[no_mangle]
-pub extern "C" fn brundhal_slip(file: &[u8], out: &mut [u8; 262144]) -> usize
-    ensures { λ r. ⌜ r ≡ length (slipOf base lotFile 3 (now (file .entry))) ⌝ }
-    ensures { λ r. ⌜ now (out .exit) ≡ laidOver (slipOf base lotFile 3 (now (file .entry))) (now (out .entry)) ⌝ }
+pub extern "C" fn brundhal_slip(file: &[u8], out: &mut [u8; limits::SLIP_BYTES]) -> usize
+    ensures { λ r. ⌜ r ≡ length (slipOf base lotFile slipLimits (now (file .entry))) ⌝ }
+    ensures { λ r. ⌜ now (out .exit) ≡ laidOver (slipOf base lotFile slipLimits (now (file .entry))) (now (out .entry)) ⌝ }
 {
     slip_writer::write(file, out)
 }

@@ -1,5 +1,5 @@
-// Inner: the limits of the definitions as constants of the code, each once. Those of `base` in `definitions`, and of `lotFile` in
-// `lot_format`; a contract that cites the definition is what holds a constant to it.
+// Inner: the limits of the definitions as constants of the code, each once. Those of `base` in `definitions`, of `lotFile` in
+// `lot_format`, of `ample` in `lot_roundtrip_theory` and of `slipLimits` in `slip_format`; a contract that cites the definition is what holds a constant to it.
 
 // The greatest depth, and so the finest level of an address.
 pub const MAX_DEPTH: u32 = 3;
@@ -21,3 +21,21 @@ pub const MAX_NAME: usize = 32;
 
 // The words of a record.
 pub const RECORD_WORDS: usize = 8;
+
+// Lent space in which what any lot file holds has room: its coordinates, indices and bytes of names, and its groups.
+pub const AMPLE_NODES: usize = 12288;
+
+pub const AMPLE_ELEMENTS: usize = 8 * MAX_ELEMENTS;
+
+pub const AMPLE_NAMES: usize = MAX_BYTES;
+
+pub const AMPLE_GROUPS: usize = 16384;
+
+// A slip: the depth of its inspection, the most elements that it prints, the words of their records, and the bytes in which it has room.
+pub const SLIP_DEPTH: u32 = 3;
+
+pub const SLIP_ELEMENTS: usize = MAX_ELEMENTS;
+
+pub const SLIP_WORDS: usize = RECORD_WORDS * SLIP_ELEMENTS;
+
+pub const SLIP_BYTES: usize = 262144;

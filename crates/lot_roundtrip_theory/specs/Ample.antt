@@ -2,7 +2,7 @@
 use mathlib.Core.Path.{_≡_, refl, sym, _∙_, subst}
 use mathlib.Core.Bool.{true}
 use mathlib.Core.List.{List}
-use Prim.Native.Nat.{ℕ, _≤_}
+use Prim.Native.Nat.{ℕ, _*_, _≤_}
 use native.Mathlib.Omega.{arith}
 use borrow.Author.Tests.{le-leb}
 use lib.ListN.{length, length-map}
@@ -17,7 +17,7 @@ use Rattle.lot_format.specs.Accepted.{accepted-short, accepted-lawful, accepted
 use Rattle.lot_roundtrip_theory.specs.Lengths.{writtenLength, length-written}
 
 abbrev pub ample : Room
-ample = record { nodes = 12288; elements = 8000; names = 65536; lengths = 16384; offsets = 16384 }
+ample = record { nodes = 12288; elements = 8 * lotFile .elements; names = lotFile .bytes; lengths = 16384; offsets = 16384 }
 
 -- what an accepted file holds takes no more bytes than the file may have
 pub accepted-size : (F : FileLimits) (file : List ℕ) (lot : Lot) → All Byte file → readLot F file ≡ readable lot → writtenLength lot ≤ F .bytes
@@ -29,12 +29,12 @@ accepted-size F file lot h e =
 module _ (lot : Lot) (l : Lawful lotFile lot) (size : writtenLength lot ≤ lotFile .bytes) where
   ample-for : roomFor (runsOf lot) ample ≡ true
   ample-for =
-      let nodes : length (lot .nodes) ≤ 12288 = omega (arith, l .nodes .threes) in
-      let elements : length (lot .elements) ≤ 8000 = omega (arith, l .elements .eights, l .elements .few) in
-      let names : length (namesOf (lot .groups)) ≤ 65536 = omega arith in
-      let lengths : length (lengthsOf (lot .groups)) ≤ 16384 = omega (arith, length-map (lot .groups) (λ (g : Group). length (g .name))) in
-      let offsets : length (offsetsOf (lot .groups)) ≤ 16384 = omega (arith, length-map (lot .groups) (λ (g : Group). g .offset)) in
-      rw (le-leb _ 12288 nodes, le-leb _ 8000 elements, le-leb _ 65536 names, le-leb _ 16384 lengths, le-leb _ 16384 offsets)
+      let nodes : length (lot .nodes) ≤ ample .nodes = omega (arith, l .nodes .threes) in
+      let elements : length (lot .elements) ≤ ample .elements = omega (arith, l .elements .eights, l .elements .few) in
+      let names : length (namesOf (lot .groups)) ≤ ample .names = omega arith in
+      let lengths : length (lengthsOf (lot .groups)) ≤ ample .lengths = omega (arith, length-map (lot .groups) (λ (g : Group). length (g .name))) in
+      let offsets : length (offsetsOf (lot .groups)) ≤ ample .offsets = omega (arith, length-map (lot .groups) (λ (g : Group). g .offset)) in
+      rw (le-leb _ (ample .nodes) nodes, le-leb _ (ample .elements) elements, le-leb _ (ample .names) names, le-leb _ (ample .lengths) lengths, le-leb _ (ample .offsets) offsets)
 
 pub ample-room : (file : List ℕ) → All Byte file → reading lotFile file ample ≡ readLot lotFile file
 ample-room file h = go (readLot lotFile file) refl

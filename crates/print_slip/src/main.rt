@@ -78,13 +78,13 @@ fn read_input(buffer: &mut [u8]) -> Input
 
 // Prints the slip of a file.
 fn print(file: &[u8]) {
-    let mut out = [0u8; 262144];
+    let mut out = [0u8; limits::SLIP_BYTES];
     let n = slip_writer::write(file, &mut out);
     io::write_all(STDOUT_FILENO, &out[..n]);
 }
 
 fn main() {
-    let mut buffer = [0u8; 65537];
+    let mut buffer = [0u8; limits::MAX_BYTES + 1];
     let input = read_input(&mut buffer);
     match input {
         Input::Unreadable => {

@@ -5,6 +5,7 @@ use mathlib.Core.Option.{Option, none, some}
 use Prim.Native.Nat.{ℕ, _*_, _/_, _≤_, zero-le}
 use native.Mathlib.Omega.{arith}
 use borrow.Author.Tests.{le-ltb}
+use lib.Dec.{leb}
 use lib.ListN.{length, take, drop}
 use lib.IntN.{ℤ, pos}
 use Rattle.foundation.specs.Lists.{All, concatMap, tabulate-cong, tabulate-all}
@@ -15,7 +16,7 @@ use Rattle.definitions.specs.Record.{kindWord}
 use Rattle.verdict_theory.specs.Elements.{element-same}
 use Rattle.lot_format.specs.Format.{FileLimits, Lot}
 use Rattle.lot_format.specs.Reading.{readable, readLot}
-use Rattle.slip_format.specs.Slip.{refusedLine, inspectedSlip, lotSlip, slipOf}
+use Rattle.slip_format.specs.Slip.{refusedLine, inspectedSlip, meshSlip, slipIf, lotSlip, slipOf}
 
 -- word 0 of a record does not say undecided
 abbrev pub Decided : List ℤ → Type 0
@@ -41,13 +42,17 @@ module _ (L : Limits) (D D′ : ℕ) (further : D ≤ D′) (shallow : D′ ≤ 
   unfolding report
   same-report = ap (concatMap (λ r. r)) same-records
 
-  same-lot-slip : lotSlip L D′ lot ≡ lotSlip L D lot
-  unfolding lotSlip
-  same-lot-slip =
+  same-mesh-slip : meshSlip L D′ lot ≡ meshSlip L D lot
+  unfolding meshSlip
+  same-mesh-slip =
       let n = length (lot .elements) / 8 in
       ap₂ (λ (x : Inspection) (words : List ℤ). elim x as (λ _. List ℕ) [ meshRefused r ↦ refusedLine (meshRefusalNumber r) | meshAccepted counts ↦ inspectedSlip (lot .label) (lot .groups) (recordWords) n words counts ])
       (same-inspection (recordWords * n)) same-report
 
-  pub same-slip : (F : FileLimits) (bytes : List ℕ) → readLot F bytes ≡ readable lot → slipOf L F D′ bytes ≡ slipOf L F D bytes
+  same-lot-slip : (most : ℕ) → lotSlip L (record { depth = D′; elements = most }) lot ≡ lotSlip L (record { depth = D; elements = most }) lot
+  unfolding lotSlip
+  same-lot-slip most = ap (slipIf (leb (length (lot .elements) / 8) most)) same-mesh-slip
+
+  pub same-slip : (F : FileLimits) (most : ℕ) (bytes : List ℕ) → readLot F bytes ≡ readable lot → slipOf L F (record { depth = D′; elements = most }) bytes ≡ slipOf L F (record { depth = D; elements = most }) bytes
   unfolding slipOf
-  same-slip F bytes e = rw (e, slipOf) same-lot-slip
+  same-slip F most bytes e = rw (e, slipOf) (same-lot-slip most)

@@ -17,7 +17,7 @@ use Rattle.lot_format.specs.Numbers.{signed}
 use Rattle.lot_format.specs.Format.{lotFile, Lot, markOf, written}
 use Rattle.lot_format.specs.Reading.{bodyOf, knownOf, entryOf, readFrom, readLot}
 use Rattle.slip_format.specs.Decimal.{digits, decimal, signedDecimal}
-use Rattle.slip_format.specs.Slip.{lotSlip, slipOf}
+use Rattle.slip_format.specs.Slip.{slipLimits, meshSlip, lotSlip, slipOf}
 use Rattle.slip_format.specs.Deeper.{same-slip}
 
 -- case A, labelled CUBE
@@ -54,10 +54,11 @@ bareSlip = (108 ∷ 111 ∷ 116 ∷ 32 ∷ 78 ∷ 79 ∷ 78 ∷ 69 ∷ 10 ∷ []
     ++ (116 ∷ 97 ∷ 108 ∷ 108 ∷ 121 ∷ 32 ∷ 48 ∷ 32 ∷ 48 ∷ 32 ∷ 48 ∷ 32 ∷ 48 ∷ 10 ∷ [])
     ++ (115 ∷ 116 ∷ 97 ∷ 109 ∷ 112 ∷ 32 ∷ 111 ∷ 112 ∷ 101 ∷ 110 ∷ 10 ∷ [])
 
--- a number, or the bytes of a file, with what is printed of it
+-- a number, or the bytes of a file, or those of a file where only so many elements are printed, with what is printed of it
 pub data Example : Type 0 where
   number : ℤ → List ℕ → Example
   file : List ℕ → List ℕ → Example
+  limited : ℕ → List ℕ → List ℕ → Example
 
 abbrev pub examples : List Example
 examples =
@@ -71,26 +72,28 @@ examples =
     file (written cube) cubeSlip ∷
     file (written nameless) namelessSlip ∷
     file (written bare) bareSlip ∷
-    file [] (114 ∷ 101 ∷ 102 ∷ 117 ∷ 115 ∷ 101 ∷ 100 ∷ 32 ∷ 50 ∷ 49 ∷ 10 ∷ []) ∷ []
+    file [] (114 ∷ 101 ∷ 102 ∷ 117 ∷ 115 ∷ 101 ∷ 100 ∷ 32 ∷ 50 ∷ 49 ∷ 10 ∷ []) ∷
+    limited 2 (written nameless) (114 ∷ 101 ∷ 102 ∷ 117 ∷ 115 ∷ 101 ∷ 100 ∷ 32 ∷ 50 ∷ 54 ∷ 10 ∷ []) ∷ []
 
 -- The one claim.
 abbrev pub Printed : Example → Type 0
 Printed (number z text) = signedDecimal z ≡ text
-Printed (file bytes text) = slipOf base lotFile 3 bytes ≡ text
+Printed (file bytes text) = slipOf base lotFile slipLimits bytes ≡ text
+Printed (limited most bytes text) = slipOf base lotFile (record { depth = slipLimits .depth; elements = most }) bytes ≡ text
 
 -- the first two lots have no undecided element, so that their slips at depth 0 are those at depth 3
 cube-printed : Printed (file (written cube) cubeSlip)
-unfolding jacobian scaledJacobian numbered at coefficients halve child children whole cornersOf coefficientsOf lowPoint lowCoefficient lastLevel validLevel verdict openedBelow openedCells opened recordOf missingIndex namedTwice pointsOf outOfRange faultOf elementRecord refusal records report inspection stampOf signed markOf written bodyOf knownOf entryOf readFrom readLot digits decimal lotSlip slipOf
-cube-printed = same-slip base 0 3 (omega arith) (omega arith) cube (λ e. absurd (omega (arith, ap natAbs e)), tt) lotFile (written cube) refl ∙ refl
+unfolding jacobian scaledJacobian numbered at coefficients halve child children whole cornersOf coefficientsOf lowPoint lowCoefficient lastLevel validLevel verdict openedBelow openedCells opened recordOf missingIndex namedTwice pointsOf outOfRange faultOf elementRecord refusal records report inspection stampOf signed markOf written bodyOf knownOf entryOf readFrom readLot digits decimal meshSlip lotSlip slipOf
+cube-printed = same-slip base 0 3 (omega arith) (omega arith) cube (λ e. absurd (omega (arith, ap natAbs e)), tt) lotFile (slipLimits .elements) (written cube) refl ∙ refl
 
 nameless-printed : Printed (file (written nameless) namelessSlip)
-unfolding jacobian scaledJacobian numbered at coefficients halve child children whole cornersOf coefficientsOf lowPoint lowCoefficient lastLevel validLevel verdict openedBelow openedCells opened recordOf missingIndex namedTwice pointsOf outOfRange faultOf elementRecord refusal records report inspection stampOf signed markOf written bodyOf knownOf entryOf readFrom readLot digits decimal lotSlip slipOf
-nameless-printed = same-slip base 0 3 (omega arith) (omega arith) nameless (λ e. absurd (omega (arith, ap natAbs e)), (λ e. absurd (omega (arith, ap natAbs e)), (λ e. absurd (omega (arith, ap natAbs e)), tt))) lotFile (written nameless) refl ∙ refl
+unfolding jacobian scaledJacobian numbered at coefficients halve child children whole cornersOf coefficientsOf lowPoint lowCoefficient lastLevel validLevel verdict openedBelow openedCells opened recordOf missingIndex namedTwice pointsOf outOfRange faultOf elementRecord refusal records report inspection stampOf signed markOf written bodyOf knownOf entryOf readFrom readLot digits decimal meshSlip lotSlip slipOf
+nameless-printed = same-slip base 0 3 (omega arith) (omega arith) nameless (λ e. absurd (omega (arith, ap natAbs e)), (λ e. absurd (omega (arith, ap natAbs e)), (λ e. absurd (omega (arith, ap natAbs e)), tt))) lotFile (slipLimits .elements) (written nameless) refl ∙ refl
 
 bare-printed : Printed (file (written bare) bareSlip)
-unfolding refusal records report inspection stampOf markOf written bodyOf knownOf entryOf readFrom readLot digits decimal lotSlip slipOf
+unfolding refusal records report inspection stampOf markOf written bodyOf knownOf entryOf readFrom readLot digits decimal meshSlip lotSlip slipOf
 bare-printed = refl
 
 pub examples-printed : All Printed examples
-unfolding readLot readFrom entryOf digits decimal slipOf
-examples-printed = (refl, (refl, (refl, (refl, (refl, (refl, (refl, (cube-printed, (nameless-printed, (bare-printed, (refl, tt)))))))))))
+unfolding signed markOf written bodyOf knownOf entryOf readFrom readLot digits decimal lotSlip slipOf
+examples-printed = (refl, (refl, (refl, (refl, (refl, (refl, (refl, (cube-printed, (nameless-printed, (bare-printed, (refl, (refl, tt))))))))))))

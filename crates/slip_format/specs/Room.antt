@@ -1,4 +1,5 @@
--- Document 02, No. 2: "The program never lacks room." How long the lines of a slip are, and that the slip of 1,000 elements has room in 262,144 bytes.
+-- Document 02, No. 2: "The program never lacks room." How long the lines of a slip are, and that a slip has room in `slipBytes`.
+use mathlib.Core.Path.{sym, subst}
 use mathlib.Core.Bool.{Bool, true, false}
 use mathlib.Core.List.{List, [], _∷_, _++_, map}
 use Prim.Native.Nat.{ℕ, zero, suc, _+_, _*_, _^_, _<_, _≤_}
@@ -9,12 +10,13 @@ use lib.ListN.{length, take, drop, length-append, length-take, length-map, take-
 use lib.IntN.{ℤ}
 use lib.Signed.{mag}
 use Rattle.foundation.specs.Lists.{All, all-left, all-right, all-map, all-image, concatMap}
+use Rattle.definitions.specs.Limits.{recordWords}
 use Rattle.definitions.specs.Mesh.{Counts, Stamp, sound, faulty, «open», stampOf}
 use Rattle.lot_format.specs.Format.{Group}
 use Rattle.lot_format.specs.Naming.{nameInForce, isEmpty, nameOf}
 use Rattle.slip_format.specs.Decimal.{decimal, signedDecimal}
 use Rattle.slip_format.specs.DecimalLaws.{decimal-short, decimal-32, signed-length}
-use Rattle.slip_format.specs.Slip.{line, wordLot, wordTally, wordStamp, wordRefused, stampWord, elementLine, elementLines, tallyLine, refusedLine, inspectedSlip}
+use Rattle.slip_format.specs.Slip.{slipLimits, slipBytes, line, wordLot, wordTally, wordStamp, wordRefused, stampWord, elementLine, elementLines, tallyLine, refusedLine, inspectedSlip}
 
 -- a name of at most 32 bytes, and a word that 64 bits hold
 abbrev pub Short : List ℕ → Type 0
@@ -52,19 +54,19 @@ held-words : (ws : List ℤ) → All Held ws → All (λ w. length w ≤ 20) (ma
 held-words ws h = all-image (λ w. length w ≤ 20) signedDecimal ws (all-map Held (λ z. length (signedDecimal z) ≤ 20) signed-length ws h)
 
 module _ (label : List ℕ) (gs : List Group) (short : Short label) (shorts : All (λ g. Short (g .name)) gs) where
-  pub element-line-length : (e : ℕ) (ws : List ℤ) → e < 1000 → length ws ≤ 8 → All Held ws → length (elementLine label gs e ws) ≤ 206
+  pub element-line-length : (e : ℕ) (ws : List ℤ) → e < slipLimits .elements → length ws ≤ recordWords → All Held ws → length (elementLine label gs e ws) ≤ 206
   element-line-length e ws few eight h =
       let number = decimal-short (suc e) (omega arith) in
       let name = name-short label gs e short shorts in
       let words = words-length 20 (map signedDecimal ws) (held-words ws h) in
       simp length-append (omega (arith, length-map ws signedDecimal))
 
-  pub element-lines-length : (e n : ℕ) (ws : List ℤ) → e + n ≤ 1000 → All Held ws → length (elementLines label gs 8 e n ws) ≤ 206 * n
+  pub element-lines-length : (e n : ℕ) (ws : List ℤ) → e + n ≤ slipLimits .elements → All Held ws → length (elementLines label gs recordWords e n ws) ≤ 206 * n
   element-lines-length e zero ws few h = omega arith
   element-lines-length e (suc n) ws few h =
-      let both : All Held (take 8 ws ++ drop 8 ws) = rw take-append-drop h in
-      let one = element-line-length e (take 8 ws) (omega arith) (simp length-take (omega arith)) (all-left Held (take 8 ws) (drop 8 ws) both) in
-      let rest = element-lines-length (suc e) n (drop 8 ws) (omega arith) (all-right Held (take 8 ws) (drop 8 ws) both) in
+      let both : All Held (take recordWords ws ++ drop recordWords ws) = subst (All Held) (sym (take-append-drop recordWords ws)) h in
+      let one = element-line-length e (take recordWords ws) (omega arith) (simp length-take (omega arith)) (all-left Held (take recordWords ws) (drop recordWords ws) both) in
+      let rest = element-lines-length (suc e) n (drop recordWords ws) (omega arith) (all-right Held (take recordWords ws) (drop recordWords ws) both) in
       rw length-append (omega arith)
 
 -- the counts are numbers of 32 bits
@@ -90,14 +92,14 @@ module _ (label : List ℕ) (gs : List Group) (n : ℕ) (ws : List ℤ) (counts 
   pub record Printable : Type 0 where
     pub label-short : Short label
     pub names-short : All (λ g. Short (g .name)) gs
-    pub elements-few : n ≤ 1000
+    pub elements-few : n ≤ slipLimits .elements
     pub words-held : All Held ws
     pub counts-held : Counted counts
 
-  pub inspected-length : Printable → length (inspectedSlip label gs 8 n ws counts) ≤ 262144
+  pub inspected-length : Printable → length (inspectedSlip label gs recordWords n ws counts) ≤ slipBytes
   inspected-length h =
       let first = line-length 32 wordLot (label ∷ []) (h .label-short, tt) in
       let lines = element-lines-length label gs (h .label-short) (h .names-short) 0 n ws (omega (arith, h .elements-few)) (h .words-held) in
       let tally = tally-length counts (h .counts-held) in
       let stamp = stamp-length (stampOf counts) in
-      rw (length-append (line wordLot (label ∷ [])), length-append (elementLines label gs 8 0 n ws), length-append (tallyLine counts)) (omega (arith, h .elements-few))
+      rw (length-append (line wordLot (label ∷ [])), length-append (elementLines label gs recordWords 0 n ws), length-append (tallyLine counts)) (omega (arith, h .elements-few))

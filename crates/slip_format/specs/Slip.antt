@@ -1,15 +1,30 @@
 -- Document 02, No. 2: the printed slip of a lot.
+use mathlib.Core.Bool.{Bool, true, false}
 use mathlib.Core.List.{List, [], _∷_, _++_, map}
 use Prim.Native.Nat.{ℕ, zero, suc, _*_, _/_}
+use lib.Dec.{leb}
 use lib.ListN.{length, take, drop}
 use lib.IntN.{ℤ}
 use Rattle.foundation.specs.Lists.{concatMap}
-use Rattle.definitions.specs.Limits.{Limits, recordWords}
+use Rattle.definitions.specs.Limits.{Limits, base, recordWords}
 use Rattle.definitions.specs.Mesh.{Counts, meshAccepted, meshRefused, inspection, report, Stamp, sound, faulty, «open», stampOf, meshRefusalNumber}
 use Rattle.lot_format.specs.Format.{FileLimits, Lot, Group}
-use Rattle.lot_format.specs.Reading.{unreadableNumber, readable, unreadable, readLot}
+use Rattle.lot_format.specs.Reading.{unreadableNumber, tooManyElements, readable, unreadable, readLot}
 use Rattle.lot_format.specs.Naming.{nameOf}
 use Rattle.slip_format.specs.Decimal.{decimal, signedDecimal}
+
+-- what a slip keeps to: the depth at which its mesh is inspected, and the most elements that it prints
+pub record SlipLimits : Type 0 where
+  pub depth : ℕ
+  pub elements : ℕ
+
+-- "inspects at depth 3 and prints": as many elements as a lot has
+abbrev pub slipLimits : SlipLimits
+slipLimits = record { depth = 3; elements = base .elements }
+
+-- the bytes in which every slip has room
+abbrev pub slipBytes : ℕ
+slipBytes = 262144
 
 -- 01: "Every printed line, the last included, ends in one line feed." A word, and each other one behind a space, the empty one too.
 abbrev pub line : List ℕ → List (List ℕ) → List ℕ
@@ -56,13 +71,22 @@ inspectedSlip label gs w n words counts =
     ++ (elementLines label gs w 0 n words
     ++ (tallyLine counts ++ line wordStamp (stampWord (stampOf counts) ∷ [])))
 
--- the slip of a lot that was read without fault; its mesh is inspected with report space of just the right length
-unfoldable pub lotSlip : Limits → ℕ → Lot → List ℕ
-lotSlip L D lot = elim (inspection L (lot .nodes) (lot .elements) (recordWords * (length (lot .elements) / 8)) D) [
+-- the slip of a lot whose elements are few enough; its mesh is inspected with report space of just the right length
+unfoldable pub meshSlip : Limits → ℕ → Lot → List ℕ
+meshSlip L D lot = elim (inspection L (lot .nodes) (lot .elements) (recordWords * (length (lot .elements) / 8)) D) [
   | meshRefused r ↦ refusedLine (meshRefusalNumber r)
-  | meshAccepted n ↦ inspectedSlip (lot .label) (lot .groups) (recordWords) (length (lot .elements) / 8) (report L (lot .nodes) (lot .elements) D) n
+  | meshAccepted n ↦ inspectedSlip (lot .label) (lot .groups) recordWords (length (lot .elements) / 8) (report L (lot .nodes) (lot .elements) D) n
 ]
 
+-- the slip of a lot, by whether its elements are few enough: one of more is refused with 26, as a file of too many is
+abbrev pub slipIf : Bool → List ℕ → List ℕ
+slipIf true slip = slip
+slipIf false slip = refusedLine (unreadableNumber tooManyElements)
+
+-- the slip of a lot that was read without fault
+unfoldable pub lotSlip : Limits → SlipLimits → Lot → List ℕ
+lotSlip L S lot = slipIf (leb (length (lot .elements) / 8) (S .elements)) (meshSlip L (S .depth) lot)
+
 -- "A small program reads a lot from standard input, inspects at depth 3 and prints." The slip of any run of bytes.
-unfoldable pub slipOf : Limits → FileLimits → ℕ → List ℕ → List ℕ
-slipOf L F D bytes = elim (readLot F bytes) [ unreadable r ↦ refusedLine (unreadableNumber r) | readable lot ↦ lotSlip L D lot ]
+unfoldable pub slipOf : Limits → FileLimits → SlipLimits → List ℕ → List ℕ
+slipOf L F S bytes = elim (readLot F bytes) [ unreadable r ↦ refusedLine (unreadableNumber r) | readable lot ↦ lotSlip L S lot ]

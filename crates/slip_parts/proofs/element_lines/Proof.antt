@@ -5,6 +5,7 @@ use Prim.Native.Nat.{ℕ, suc, _+_, _-_, _*_, _/_, _≤_}
 use native.Mathlib.Omega.{arith}
 use borrow.Author.Needs.{needs}
 use lib.ListN.{length, take, drop}
+use Rattle.definitions.specs.Limits.{recordWords}
 use Rattle.lot_format.specs.Format.{Group}
 use Rattle.lot_format.specs.Runs.{groupsOf}
 use Rattle.slip_format.specs.Decimal.{decimal, signedDecimal}
@@ -15,7 +16,7 @@ use Rattle.slip_parts.proofs.element_lines.Statement.{statement}
 use Rattle.slip_parts.proofs.element_lines.Tie as tie
 
 abbrev Inv-loop : tie.InvT-loop
-Inv-loop out₀ at label names lengths offsets report n next₀ e₀ out next e = (e ≤ n) × Progress at (elementLines label (groupsOf names lengths offsets) 8 0 (length report / 8) report) out₀ (linesFrom label (groupsOf names lengths offsets) (length report / 8) report e) out next
+Inv-loop out₀ at label names lengths offsets report n next₀ e₀ out next e = (e ≤ n) × Progress at (elementLines label (groupsOf names lengths offsets) recordWords 0 (length report / recordWords) report) out₀ (linesFrom label (groupsOf names lengths offsets) (length report / recordWords) report e) out next
 
 abbrev μ-loop : tie.MeasureT-loop
 μ-loop out₀ at label names lengths offsets report n next₀ e₀ out next e = n - e
@@ -25,16 +26,16 @@ abbrev groupsIn : tie.Start Inv-loop μ-loop → List Group
 groupsIn s = groupsOf (s .args .names .now) (s .args .lengths .now) (s .args .offsets .now)
 
 abbrev countIn : tie.Start Inv-loop μ-loop → ℕ
-countIn s = length (s .args .report .now) / 8
+countIn s = length (s .args .report .now) / recordWords
 
 abbrev textOf : tie.Start Inv-loop μ-loop → List ℕ
-textOf s = elementLines (s .args .label .now) (groupsIn s) 8 0 (countIn s) (s .args .report .now)
+textOf s = elementLines (s .args .label .now) (groupsIn s) recordWords 0 (countIn s) (s .args .report .now)
 
 -- the line that is written in one turn, and what is left behind it
 abbrev lineAt : tie.After-name-of Inv-loop μ-loop → List ℕ
 lineAt c =
     let e = c .before .before .loop .e in
-    line (decimal (suc e)) (c .name-of .result .now ∷ map signedDecimal (take (8 * e + 8 - 8 * e) (drop (8 * e) (c .before .before .before .before .before .before .before .before .args .report .now))))
+    line (decimal (suc e)) (c .name-of .result .now ∷ map signedDecimal (take (recordWords * e + recordWords - recordWords * e) (drop (recordWords * e) (c .before .before .before .before .before .before .before .before .args .report .now))))
 
 abbrev behind : tie.After-name-of Inv-loop μ-loop → List ℕ
 behind c = let s = c .before .before .before .before .before .before .before .before in linesFrom (s .args .label .now) (groupsIn s) (countIn s) (s .args .report .now) (c .before .before .loop .e + 1)
@@ -43,8 +44,8 @@ due : (c : tie.After-name-of Inv-loop μ-loop) → Next (linesFrom (c .before .b
 due c =
     let s = c .before .before .before .before .before .before .before .before in
     let l = c .before .before .loop in
-    let eight : 8 ≡ 8 * l .e + 8 - 8 * l .e = omega arith in
-    let words = ap (λ (k : ℕ). map signedDecimal (take k (drop (8 * l .e) (s .args .report .now)))) eight in
+    let long : recordWords ≡ recordWords * l .e + recordWords - recordWords * l .e = omega arith in
+    let words = ap (λ (k : ℕ). map signedDecimal (take k (drop (recordWords * l .e) (s .args .report .now)))) long in
     let same = ap₂ (λ (name : List ℕ) (ws : List (List ℕ)). line (decimal (suc (l .e))) (name ∷ ws) ++ behind c) (sym (c .name-of .ensures .0)) words in
     record { parts = lines-next (s .args .label .now) (groupsIn s) (countIn s) (s .args .report .now) (l .e) (omega arith) ∙ same }
 

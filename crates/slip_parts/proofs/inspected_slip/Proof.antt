@@ -4,6 +4,7 @@ use mathlib.Core.List.{List, [], _∷_, _++_}
 use Prim.Native.Nat.{ℕ, _/_}
 use borrow.Author.Needs.{needs}
 use lib.ListN.{length}
+use Rattle.definitions.specs.Limits.{recordWords}
 use Rattle.definitions.specs.Mesh.{Stamp, stampOf}
 use Rattle.lot_format.specs.Format.{Group}
 use Rattle.lot_format.specs.Runs.{groupsOf}
@@ -22,7 +23,7 @@ abbrev top : tie.Start → List ℕ
 top s = line wordLot (s .args .label .now ∷ [])
 
 abbrev middle : tie.Start → List ℕ
-middle s = elementLines (s .args .label .now) (groupsIn s) 8 0 (length (s .args .report .now) / 8) (s .args .report .now)
+middle s = elementLines (s .args .label .now) (groupsIn s) recordWords 0 (length (s .args .report .now) / recordWords) (s .args .report .now)
 
 abbrev tally : tie.Start → List ℕ
 tally s = tallyLine (countsHeld (s .args .counts))

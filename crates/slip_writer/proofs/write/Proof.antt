@@ -5,7 +5,7 @@ use borrow.Author.Needs.{needs}
 use Rattle.foundation.specs.Laid.{put-start}
 use Rattle.definitions.specs.Limits.{base}
 use Rattle.lot_format.specs.Format.{lotFile}
-use Rattle.slip_format.specs.Slip.{slipOf}
+use Rattle.slip_format.specs.Slip.{slipLimits, slipOf}
 use Rattle.slip_writer.proofs.write.Statement.{statement}
 use Rattle.slip_writer.proofs.write.Tie as tie
 
@@ -31,7 +31,7 @@ file-slip-requires : tie.Need-file-slip-requires
 file-slip-requires c κs = search needs
 
 returns : tie.Need-returns
-returns c = let s = c .before .before .before .before .before .before .before .before .before .before .before .before .before .before .before in let e = c .before .before .before .before .before .before .file-slip .ensures in (omega (arith, e .0), e .1 ∙ put-start (slipOf base lotFile 3 (s .args .file .now)) (s .args .out .now))
+returns c = let s = c .before .before .before .before .before .before .before .before .before .before .before .before .before .before .before in let e = c .before .before .before .before .before .before .file-slip .ensures in (omega (arith, e .0), e .1 ∙ put-start (slipOf base lotFile slipLimits (s .args .file .now)) (s .args .out .now))
 
 pub write-spec : {M : Type 1} → statement M
 write-spec =

@@ -1,31 +1,31 @@
--- `lot_slip` meets its contract: by what the inspection answers. Assumes nothing.
+-- `mesh_slip` meets its contract: by what the inspection answers. Assumes nothing.
 use mathlib.Core.Path.{_≡_, sym, _∙_, ap}
 use Prim.Native.Nat.{_/_}
 use native.Mathlib.Omega.{arith}
 use borrow.Author.Needs.{needs}
 use lib.ListN.{length}
-use Rattle.definitions.specs.Limits.{base}
+use Rattle.definitions.specs.Limits.{recordWords, base}
 use Rattle.definitions.specs.Mesh.{MeshRefusal, meshRefusalNumber, depthTooGreat, badCoordinates, badIndices, badSpace, meshRefused, inspection}
 use Rattle.lot_format.specs.Format.{Lot}
 use Rattle.lot_format.specs.Runs.{lotFrom}
-use Rattle.slip_format.specs.Slip.{refusedLine, inspectedSlip, lotSlip}
+use Rattle.slip_format.specs.Slip.{slipLimits, refusedLine, inspectedSlip, meshSlip}
 use Rattle.inspector.specs.Meaning.{countsHeld}
 use Rattle.inspector.specs.declared.Inspection.{Inspection as HeldInspection}
 use Rattle.inspector.specs.Meaning.{inspectionHeld}
 use Rattle.bytes_output.specs.Behind.{laid-as}
-use Rattle.slip_writer.proofs.Lots.{slip-refused, slip-inspected}
-use Rattle.slip_writer.proofs.lot_slip.Statement.{statement}
-use Rattle.slip_writer.proofs.lot_slip.Tie as tie
+use Rattle.slip_parts.proofs.Meshes.{slip-refused, slip-inspected}
+use Rattle.slip_parts.proofs.mesh_slip.Statement.{statement}
+use Rattle.slip_parts.proofs.mesh_slip.Tie as tie
 
 -- the lot that is handed in
 abbrev lotIn : tie.Start → Lot
 lotIn s = lotFrom (record { label = s .args .label .now; nodes = s .args .nodes .now; elements = s .args .elements .now; names = s .args .names .now; lengths = s .args .lengths .now; offsets = s .args .offsets .now })
 
 -- its slip where the mesh is refused, and where it is inspected
-refused-as : (s : tie.Start) (x : HeldInspection) (r : MeshRefusal) → inspectionHeld x ≡ inspection base (s .args .nodes .now) (s .args .elements .now) (length (s .args .report .now)) 3 → inspectionHeld x ≡ meshRefused r → refusedLine (meshRefusalNumber r) ≡ lotSlip base 3 (lotIn s)
+refused-as : (s : tie.Start) (x : HeldInspection) (r : MeshRefusal) → inspectionHeld x ≡ inspection base (s .args .nodes .now) (s .args .elements .now) (length (s .args .report .now)) (slipLimits .depth) → inspectionHeld x ≡ meshRefused r → refusedLine (meshRefusalNumber r) ≡ meshSlip base (slipLimits .depth) (lotIn s)
 refused-as s x r e f = slip-refused (lotIn s) (s .args .report .now) (s .pre .0 .1) r (sym f ∙ e)
 
-inspected-as : (c : tie.After-answer) → inspectedSlip (c .before .before .before .before .before .before .before .before .before .before .before .args .label .now) (lotIn (c .before .before .before .before .before .before .before .before .before .before .before) .groups) 8 (length (c .before .before .before .inspect .last .1 .1 .1 .0) / 8) (c .before .before .before .inspect .last .1 .1 .1 .0) (countsHeld (c .answer .given .0 .0)) ≡ lotSlip base 3 (lotIn (c .before .before .before .before .before .before .before .before .before .before .before))
+inspected-as : (c : tie.After-answer) → inspectedSlip (c .before .before .before .before .before .before .before .before .before .before .before .args .label .now) (lotIn (c .before .before .before .before .before .before .before .before .before .before .before) .groups) recordWords (length (c .before .before .before .inspect .last .1 .1 .1 .0) / recordWords) (c .before .before .before .inspect .last .1 .1 .1 .0) (countsHeld (c .answer .given .0 .0)) ≡ meshSlip base (slipLimits .depth) (lotIn (c .before .before .before .before .before .before .before .before .before .before .before))
 inspected-as c =
     let s = c .before .before .before .before .before .before .before .before .before .before .before in
     let i = c .before .before .before .inspect in
@@ -112,8 +112,8 @@ same-length-10 c = search needs
 returns-5 : tie.Need-returns-5
 returns-5 c = let s = c .before .before .before .before .before .before .before .before .before .before .before .before .before .before .before in laid-as (s .args .at) (s .args .out .now) (refused-as s (c .before .before .before .before .before .before .before .inspect .result) badSpace (c .before .before .before .before .before .before .before .inspect .ensures .0) (ap inspectionHeld (c .before .before .before .before .enum-told4 .given .1))) (c .before .before .refused-line4 .ensures)
 
-pub lot-slip-spec : {M : Type 1} → statement M
-lot-slip-spec =
+pub mesh-slip-spec : {M : Type 1} → statement M
+mesh-slip-spec =
     tie.close
     (tie.spec
     inspect-requires
