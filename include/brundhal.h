@@ -3,7 +3,7 @@
  * The library decides in whole numbers, without rounding, whether the Jacobian
  * determinant of trilinear hexahedra is positive. Its code is proved against
  * definitions that lay down every answer (crates/definitions; of lot files
- * crates/lotfile, of slips crates/printed). It also reads and
+ * crates/lot_format, of slips crates/slip_format). It also reads and
  * writes the lot files in which meshes arrive, and prints slips of them.
  * Link with libbrundhal.a; no other library is needed but the C library's
  * memory functions (memset and the like).

@@ -1,5 +1,5 @@
 // The numbers that stand in our files, low byte first. An inner crate: its callers meet what each `requires` asks.
-// Every answer is an equation with `Numbers` of the crate `lotfile`.
+// Every answer is an equation with `Numbers` of the crate `lot_format`.
 ghost use mathlib.Core.Path.{_≡_};
 ghost use Prim.Native.Nat.{_+_, _≤_, _<_};
 ghost use lib.ListN.{length, take, drop};

@@ -1,5 +1,5 @@
 // Bytes laid over lent space from a place on; each function returns the place behind them. An inner crate: its callers see that there is
-// room. Numbers stand low byte first, as `Numbers` of the crate `lotfile` has it.
+// room. Numbers stand low byte first, as `Numbers` of the crate `lot_format` has it.
 ghost use mathlib.Core.Path.{_≡_};
 ghost use mathlib.Core.List.{[], _∷_};
 ghost use Prim.Native.Nat.{_+_, _%_, _≤_, _<_};

@@ -1,6 +1,6 @@
 // The entries of a lot file, as a record of the file is called here: mark, length, body. What stands at a place of the file, and whether it is
 // right there. An inner crate: its callers meet what each `requires` asks.
-// Every answer is an equation with `Format` and `Reading` of the crate `lotfile` at the limits `lotFile`.
+// Every answer is an equation with `Format` and `Reading` of the crate `lot_format` at the limits `lotFile`.
 ghost use mathlib.Core.Path.{_≡_};
 ghost use mathlib.Core.Bool.{true};
 ghost use Prim.Native.Nat.{_+_, _/_, _%_, _≤_, _<_};

@@ -1,5 +1,5 @@
 // Writing a lot file: the service `write`. Nothing has to be checked first: it takes any runs and any lent space, and states its whole
-// answer, every byte of lent space included, as an equation with `Writing` of the crate `lotfile` at the limits `lotFile`.
+// answer, every byte of lent space included, as an equation with `Writing` of the crate `lot_format` at the limits `lotFile`.
 // All is tested first, in the order of the definitions' `tests`; then the file is written entry by entry.
 
 ghost use mathlib.Core.Path.{_≡_};

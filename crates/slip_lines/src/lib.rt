@@ -1,5 +1,5 @@
 // The lines of a slip, laid over lent space from a place on; each function returns the place behind its text. An inner crate: its callers
-// see that there is room. Every text is the one that `Decimal` and `Slip` of the crate `printed` define.
+// see that there is room. Every text is the one that `Decimal` and `Slip` of the crate `slip_format` define.
 ghost use mathlib.Core.Path.{_≡_};
 ghost use mathlib.Core.List.{[], _∷_, map};
 ghost use Prim.Native.Nat.{suc, _+_, _≤_, _<_};
