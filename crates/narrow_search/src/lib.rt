@@ -9,106 +9,23 @@ ghost use lib.IntN.{ℤ};
 ghost use Rattle.foundation.specs.Least.{lesser as lesserOf, leastFrom};
 ghost use Rattle.definitions.specs.Jacobian.{side};
 ghost use Rattle.definitions.specs.Coefficients.{coefficients};
-ghost use Rattle.definitions.specs.Record.{verdictWords, recordOf};
+ghost use Rattle.definitions.specs.Record.{recordOf};
 ghost use Rattle.definitions.specs.Subdivision.{halve, Cell};
 ghost use Rattle.expansion_theory.specs.Control.{Cuttable};
-ghost use Rattle.verdict_theory.specs.Search.{Pass, ended as hasEnded, openCell, visit as visited};
+ghost use Rattle.verdict_theory.specs.Search.{Pass, visit as visited};
 ghost use Rattle.verdict_theory.specs.Extremes.{extremes as extremesBelow};
-ghost use Rattle.verdict_theory.specs.Clear.{more, openedClear};
-ghost use Rattle.search_theory.specs.Meaning.{cellOf, lowest as lowestOf, Small, deepest, Room, Held};
+ghost use Rattle.search_theory.specs.Meaning.{cellOf, Small, deepest, Room, Held};
 ghost use Rattle.search_theory.specs.Children.{Ready, Run};
-ghost use Rattle.search_theory.specs.Levels.{wholeOf, fresh, isBlocked, outcome};
+ghost use Rattle.search_theory.specs.Levels.{wholeOf, fresh};
 ghost use Rattle.search_theory.specs.Bounds.{withControl, boundsAt};
 ghost use Rattle.narrow_subdivision.specs.Word.{largest};
-ghost use Rattle.narrow_search.specs.Meaning.{layout, passWords, extremesOf};
+ghost use Rattle.narrow_pass.specs.Meaning.{passWords};
+ghost use Rattle.narrow_search.specs.Meaning.{extremesOf};
 use limits::RECORD_WORDS;
-
-// The words of a pass: what was found (0 nothing, 1 a low corner, 2 a low coefficient), its grid numbers, its number, its value, and how
-// many cells were opened.
-const PASS_WORDS: usize = 7;
+use narrow_pass::PASS_WORDS;
 
 // The greatest number of a word.
 const GREATEST: i64 = 9223372036854775807;
-
-// The lowest number of a coefficient that is not above 0, from 1; 0 where there is none.
-fn lowest(g: &[i64; 27]) -> usize
-    ensures { λ r. ⌜ (r ≡ lowestOf (now (g .entry))) × (r ≤ 27) ⌝ }
-{
-    for k in 0..27 {
-        let v = g[k];
-        if v <= 0 {
-            return k + 1;
-        }
-    }
-    0
-}
-
-// Whether a low corner was found.
-fn ended(pass: &[i64; PASS_WORDS]) -> bool
-    ensures { λ r. ⌜ ((p : Pass) → now (pass .entry) ≡ passWords p → r ≡ hasEnded (p .found)) ⌝ }
-{
-    let kind = pass[0];
-    kind == 1
-}
-
-// So many cells more were opened.
-fn add_opened(n: u32, pass: &mut [i64; PASS_WORDS])
-    requires { ⌜ Held passWords n (now pass) ⌝ }
-    ensures { λ _. ⌜ ((p : Pass) → now (pass .entry) ≡ passWords p → now (pass .exit) ≡ passWords (more n p)) ⌝ }
-{
-    let count = pass[6];
-    pass[6] = count + n as i64;
-}
-
-// A finding in place of what was found before; kind 0 and zeros, to forget it.
-fn note(kind: u32, a: u32, b: u32, c: u32, number: u32, value: i64, pass: &mut [i64; PASS_WORDS])
-    ensures { λ _. ⌜ ((p : Pass) → now (pass .entry) ≡ passWords p → now (pass .exit) ≡ layout kind a b c number value (p .count)) ⌝ }
-{
-    pass[0] = kind as i64;
-    pass[1] = a as i64;
-    pass[2] = b as i64;
-    pass[3] = c as i64;
-    pass[4] = number as i64;
-    pass[5] = value;
-}
-
-// A cell of the last level with a low coefficient, the lowest that of number n: one cell more, and a low corner, or a low coefficient
-// where nothing low was found before.
-fn open_low(g: &[i64; 27], a: u32, b: u32, c: u32, n: usize, pass: &mut [i64; PASS_WORDS])
-    requires { ⌜ Room largest (now g) a b c 0 × Held passWords 1 (now pass) ⌝ }
-    requires { ⌜ (n ≡ lowestOf (now g)) × (0 < n) × (n ≤ 27) ⌝ }
-    ensures { λ _. ⌜ ((p : Pass) → now (pass .entry) ≡ passWords p → hasEnded (p .found) ≡ false → now (pass .exit) ≡ passWords (openCell (cellOf a b c (now (g .entry))) p)) ⌝ }
-{
-    add_opened(1, pass);
-    let k = n as u32 - 1;
-    let value = g[n - 1];
-    if n <= 8 {
-        note(
-            1,
-            a + cell_address::side(0, k),
-            b + cell_address::side(1, k),
-            c + cell_address::side(2, k),
-            k + 1,
-            value,
-            pass,
-        );
-        return;
-    }
-    let kind = pass[0];
-    if kind == 0 {
-        note(2, a, b, c, k + 1, value, pass);
-    }
-}
-
-// So many cells without a low coefficient, with `left` levels below them: they are opened where they are of the last level.
-fn skip(n: u32, left: u32, pass: &mut [i64; PASS_WORDS])
-    requires { ⌜ Held passWords n (now pass) ⌝ }
-    ensures { λ _. ⌜ ((p : Pass) → now (pass .entry) ≡ passWords p → now (pass .exit) ≡ passWords (more (openedClear n left) p)) ⌝ }
-{
-    if left == 0 {
-        add_opened(n, pass);
-    }
-}
 
 // The half of c in direction d that child k, 0 to 7, lies in: made where child k is the first in it, else there already.
 fn half_at(d: u32, first: bool, c: &[i64; 27], k: u32, out: &mut [i64; 27])
@@ -129,13 +46,13 @@ fn clear(g: &[i64; 27], k: u32, half: &mut [i64; 27], quarter: &mut [i64; 27]) -
 {
     half_at(2, k % 4 == 0, g, k, half);
     if k % 4 == 0 {
-        if lowest(half) == 0 {
+        if narrow_pass::lowest(half) == 0 {
             return 4;
         }
     }
     half_at(1, k % 2 == 0, half, k, quarter);
     if k % 2 == 0 {
-        if lowest(quarter) == 0 {
+        if narrow_pass::lowest(quarter) == 0 {
             return 2;
         }
     }
@@ -148,16 +65,16 @@ fn visit(g: &[i64; 27], a: u32, b: u32, c: u32, left: u32, pass: &mut [i64; PASS
     requires { ⌜ Room largest (now g) a b c left × Held passWords (8 ^ left) (now pass) ⌝ }
     ensures { λ _. ⌜ ((p : Pass) → now (pass .entry) ≡ passWords p → now (pass .exit) ≡ passWords (visited left (cellOf a b c (now (g .entry))) p)) ⌝ }
 {
-    if ended(pass) {
+    if narrow_pass::ended(pass) {
         return;
     }
-    let n = lowest(g);
+    let n = narrow_pass::lowest(g);
     if n == 0 {
-        skip(1, left, pass);
+        narrow_pass::skip(1, left, pass);
         return;
     }
     if left == 0 {
-        open_low(g, a, b, c, n, pass);
+        narrow_pass::open_low(g, a, b, c, n, pass);
         return;
     }
     let mut half = [0i64; 27];
@@ -165,7 +82,7 @@ fn visit(g: &[i64; 27], a: u32, b: u32, c: u32, left: u32, pass: &mut [i64; PASS
     let mut child = [0i64; 27];
     let mut k: u32 = 0;
     while k < 8 {
-        if ended(pass) {
+        if narrow_pass::ended(pass) {
             return;
         }
         let over = clear(g, k, &mut half, &mut quarter);
@@ -177,7 +94,7 @@ fn visit(g: &[i64; 27], a: u32, b: u32, c: u32, left: u32, pass: &mut [i64; PASS
             visit(&child, 2 * a + x, 2 * b + y, 2 * c + z, left - 1, pass);
             k += 1;
         } else {
-            skip(over, left - 1, pass);
+            narrow_pass::skip(over, left - 1, pass);
             k += over;
         }
     }
@@ -188,30 +105,8 @@ fn pass_at(g: &[i64; 27], level: u32, pass: &mut [i64; PASS_WORDS])
     requires { ⌜ Small largest (now g) level × (level ≤ deepest) × Held passWords (8 ^ level) (now pass) ⌝ }
     ensures { λ _. ⌜ ((p : Pass) → now (pass .entry) ≡ passWords p → now (pass .exit) ≡ passWords (visited level (wholeOf (now (g .entry))) (fresh (p .count)))) ⌝ }
 {
-    note(0, 0, 0, 0, 0, 0, pass);
+    narrow_pass::note(0, 0, 0, 0, 0, 0, pass);
     visit(g, 0, 0, 0, level, pass);
-}
-
-// Whether a pass found a low coefficient and no low corner.
-fn blocked(pass: &[i64; PASS_WORDS]) -> bool
-    ensures { λ b. ⌜ ((p : Pass) → now (pass .entry) ≡ passWords p → b ≡ isBlocked (p .found)) ⌝ }
-{
-    let kind = pass[0];
-    kind == 2
-}
-
-// The record that the last pass, that of a level, comes to.
-fn settled(level: u32, pass: &[i64; PASS_WORDS]) -> [i64; RECORD_WORDS]
-    ensures { λ w. ⌜ ((p : Pass) → now (pass .entry) ≡ passWords p → w ≡ verdictWords (outcome level (p .found)) (p .count)) ⌝ }
-{
-    let kind = pass[0];
-    let a = pass[1];
-    let b = pass[2];
-    let c = pass[3];
-    let number = pass[4];
-    let value = pass[5];
-    let count = pass[6];
-    [kind, level as i64, a, b, c, number, value, count]
 }
 
 // The record of the eight points with these coefficients: a pass of level 0, 1, .. while only low coefficients are found.
@@ -222,11 +117,11 @@ pub fn record(g: &[i64; 27], depth: u32) -> [i64; RECORD_WORDS]
     let mut m: u32 = 0;
     let mut r = [0i64; PASS_WORDS];
     pass_at(g, 0, &mut r);
-    while (m < depth) & blocked(&r) {
+    while (m < depth) & narrow_pass::blocked(&r) {
         m += 1;
         pass_at(g, m, &mut r);
     }
-    settled(m, &r)
+    narrow_pass::settled(m, &r)
 }
 
 // The least coefficient and the least corner of the cells seen so far.

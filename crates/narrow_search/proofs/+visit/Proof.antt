@@ -11,7 +11,7 @@ use Rattle.verdict_theory.specs.Search.{Pass, visit as visited}
 use Rattle.verdict_theory.specs.Clear.{childControl}
 use Rattle.expansion_theory.specs.Control.{Cuttable}
 use Rattle.search_theory.specs.Meaning.{cellOf, Room}
-use Rattle.narrow_search.specs.Meaning.{passWords}
+use Rattle.narrow_pass.specs.Meaning.{passWords}
 use Rattle.search_theory.specs.Children.{Ready, Run, ready-first, after-some, child-made, cut-quarter, cut-small, grid-doubled, child-room, child-cell}
 use Rattle.search_theory.specs.Visit.{visit-ended, visit-none, visit-last, over, over-next, over-clear, over-ended, visit-over, one-held, skip-held, next-held}
 use Rattle.narrow_subdivision.specs.Word.{largest}
@@ -22,11 +22,11 @@ use Rattle.narrow_search.proofs.visit.Kinds as visit-kinds
 use Rattle.narrow_search.proofs.+visit.Lts-visit as visit-lts
 use Rattle.cell_address.proofs.side.Reads as side-reads
 use Rattle.narrow_search.proofs.clear.Reads as clear-reads
-use Rattle.narrow_search.proofs.ended.Reads as ended-reads
+use Rattle.narrow_pass.proofs.ended.Reads as ended-reads
 use Rattle.narrow_subdivision.proofs.halve.Reads as halve-reads
-use Rattle.narrow_search.proofs.lowest.Reads as lowest-reads
-use Rattle.narrow_search.proofs.open_low.Reads as open-low-reads
-use Rattle.narrow_search.proofs.skip.Reads as skip-reads
+use Rattle.narrow_pass.proofs.lowest.Reads as lowest-reads
+use Rattle.narrow_pass.proofs.open_low.Reads as open-low-reads
+use Rattle.narrow_pass.proofs.skip.Reads as skip-reads
 use Rattle.narrow_search.proofs.+visit.{statement}
 use Rattle.narrow_search.proofs.+visit.Tie.{close}
 

@@ -3,7 +3,7 @@ use denote.Ref.{now}
 use borrow.Author.Needs.{needs}
 use Rattle.narrow_subdivision.specs.Word.{largest}
 use Rattle.search_theory.specs.Levels.{fresh, whole-room, whole-held}
-use Rattle.narrow_search.specs.Meaning.{passWords}
+use Rattle.narrow_pass.specs.Meaning.{passWords}
 use Rattle.narrow_search.proofs.pass_at.Statement.{statement}
 use Rattle.narrow_search.proofs.pass_at.Tie as tie
 

@@ -1,4 +1,4 @@
--- `narrow_search::lowest` meets its contract: before each turn no coefficient passed is low. Assumes nothing.
+-- `narrow_pass::lowest` meets its contract: before each turn no coefficient passed is low. Assumes nothing.
 use mathlib.Core.Path.{_≡_, refl, sym, ap, _∙_}
 use mathlib.Core.Bool.{true, false}
 use Prim.Native.Nat.{_+_, _-_, _≤_, _<_, zero-le}
@@ -11,8 +11,8 @@ use mir.Syntax.{w64}
 use mir.ValLaws.{toZ-ofZ}
 use Rattle.search_theory.specs.Meaning.{lowFrom, lowest}
 use Rattle.search_theory.specs.Lowest.{low-here, low-later}
-use Rattle.narrow_search.proofs.lowest.Statement.{statement}
-use Rattle.narrow_search.proofs.lowest.Tie as tie
+use Rattle.narrow_pass.proofs.lowest.Statement.{statement}
+use Rattle.narrow_pass.proofs.lowest.Tie as tie
 
 abbrev Inv-loop : tie.InvT-loop
 Inv-loop g k₀ k = (k ≤ 27) × (lowest g ≡ lowFrom g k (27 - k))

@@ -1,9 +1,9 @@
--- `narrow_search::blocked` meets its contract: word 0 is 2 where only low coefficients were found. Assumes nothing.
+-- `narrow_pass::blocked` meets its contract: word 0 is 2 where only low coefficients were found. Assumes nothing.
 use denote.Ref.{now}
 use borrow.Author.Needs.{needs}
-use Rattle.narrow_search.proofs.Passes.{blocked-word}
-use Rattle.narrow_search.proofs.blocked.Statement.{statement}
-use Rattle.narrow_search.proofs.blocked.Tie as tie
+use Rattle.narrow_pass.proofs.Passes.{blocked-word}
+use Rattle.narrow_pass.proofs.blocked.Statement.{statement}
+use Rattle.narrow_pass.proofs.blocked.Tie as tie
 
 element-copy-out-kind : tie.Need-element-copy-out-kind
 element-copy-out-kind c = search needs

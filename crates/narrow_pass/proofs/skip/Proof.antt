@@ -1,12 +1,12 @@
--- `narrow_search::skip` meets its contract: by the levels left. Assumes nothing.
+-- `narrow_pass::skip` meets its contract: by the levels left. Assumes nothing.
 use mathlib.Core.Path.{sym, _∙_, ap}
 use Prim.Native.Nat.{ℕ}
 use borrow.Author.Needs.{needs}
 use Rattle.verdict_theory.specs.Clear.{more, openedClear}
-use Rattle.narrow_search.specs.Meaning.{passWords}
+use Rattle.narrow_pass.specs.Meaning.{passWords}
 use Rattle.search_theory.specs.Visit.{later-clear}
-use Rattle.narrow_search.proofs.skip.Statement.{statement}
-use Rattle.narrow_search.proofs.skip.Tie as tie
+use Rattle.narrow_pass.proofs.skip.Statement.{statement}
+use Rattle.narrow_pass.proofs.skip.Tie as tie
 
 add-opened-requires : tie.Need-add-opened-requires
 add-opened-requires c κs = search needs

@@ -11,7 +11,7 @@ use mir.Val.{ofZ}
 use Rattle.definitions.specs.Record.{verdictWords}
 use Rattle.definitions.specs.Verdict.{Finding}
 use Rattle.verdict_theory.specs.Search.{Found, nothing, coefficient, point, Pass, ended}
-use Rattle.narrow_search.specs.Meaning.{layout, foundWords, passWords}
+use Rattle.narrow_pass.specs.Meaning.{layout, foundWords, passWords}
 use Rattle.search_theory.specs.Lowest.{withCoefficient}
 use Rattle.search_theory.specs.Levels.{isBlocked, outcome}
 

@@ -1,4 +1,4 @@
--- `narrow_search::settled` meets its contract: each word is read back whole, and the level stands behind the first. Assumes nothing.
+-- `narrow_pass::settled` meets its contract: each word is read back whole, and the level stands behind the first. Assumes nothing.
 use mathlib.Core.Path.{_≡_, _∙_}
 use mathlib.Core.List.{[], _∷_}
 use Prim.Native.Nat.{ℕ, _<_, _^_}
@@ -10,9 +10,9 @@ use mir.ValLaws.{toZ-ofZ, toZ-pos}
 use denote.Ref.{now}
 use borrow.Author.Needs.{needs}
 use Rattle.foundation.specs.Words.{signedLimit}
-use Rattle.narrow_search.proofs.Passes.{settled-words}
-use Rattle.narrow_search.proofs.settled.Statement.{statement}
-use Rattle.narrow_search.proofs.settled.Tie as tie
+use Rattle.narrow_pass.proofs.Passes.{settled-words}
+use Rattle.narrow_pass.proofs.settled.Statement.{statement}
+use Rattle.narrow_pass.proofs.settled.Tie as tie
 
 element-copy-out-kind : tie.Need-element-copy-out-kind
 element-copy-out-kind c = search needs

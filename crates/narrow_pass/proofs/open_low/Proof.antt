@@ -1,4 +1,4 @@
--- `narrow_search::open_low` meets its contract: the lowest number is a corner's or another's, and of the others the first one stays. Assumes nothing.
+-- `narrow_pass::open_low` meets its contract: the lowest number is a corner's or another's, and of the others the first one stays. Assumes nothing.
 use mathlib.Core.Path.{_≡_, sym, _∙_, ap}
 use Prim.Native.Nat.{ℕ, suc, _+_, _-_}
 use native.Mathlib.Omega.{arith}
@@ -10,11 +10,11 @@ use denote.Ref.{now}
 use borrow.Author.Needs.{needs}
 use Rattle.verdict_theory.specs.Search.{Found}
 use Rattle.search_theory.specs.Meaning.{cellOf}
-use Rattle.narrow_search.specs.Meaning.{layout, passWords, foundWords}
+use Rattle.narrow_pass.specs.Meaning.{layout, passWords, foundWords}
 use Rattle.search_theory.specs.Lowest.{atCell, withCoefficient, opened-corner, opened-coefficient}
-use Rattle.narrow_search.proofs.Passes.{nothing-word, stays-word}
-use Rattle.narrow_search.proofs.open_low.Statement.{statement}
-use Rattle.narrow_search.proofs.open_low.Tie as tie
+use Rattle.narrow_pass.proofs.Passes.{nothing-word, stays-word}
+use Rattle.narrow_pass.proofs.open_low.Statement.{statement}
+use Rattle.narrow_pass.proofs.open_low.Tie as tie
 
 add-opened-requires : tie.Need-add-opened-requires
 add-opened-requires c κs = search needs

@@ -1,4 +1,4 @@
--- `narrow_search::note` meets its contract: each word is read back whole. Assumes nothing.
+-- `narrow_pass::note` meets its contract: each word is read back whole. Assumes nothing.
 use mathlib.Core.Path.{_∙_}
 use Prim.Native.Nat.{_<_, _^_}
 use native.Mathlib.Omega.{arith}
@@ -8,9 +8,9 @@ use mir.ValLaws.{toZ-ofZ, toZ-pos}
 use denote.Ref.{now}
 use borrow.Author.Needs.{needs}
 use Rattle.foundation.specs.Words.{signedLimit}
-use Rattle.narrow_search.proofs.Passes.{noted}
-use Rattle.narrow_search.proofs.note.Statement.{statement}
-use Rattle.narrow_search.proofs.note.Tie as tie
+use Rattle.narrow_pass.proofs.Passes.{noted}
+use Rattle.narrow_pass.proofs.note.Statement.{statement}
+use Rattle.narrow_pass.proofs.note.Tie as tie
 
 cast-pass : tie.Need-cast-pass
 cast-pass c = search needs

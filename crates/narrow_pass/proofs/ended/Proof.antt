@@ -1,9 +1,9 @@
--- `narrow_search::ended` meets its contract: word 0 is 1 where a low corner was found. Assumes nothing.
+-- `narrow_pass::ended` meets its contract: word 0 is 1 where a low corner was found. Assumes nothing.
 use borrow.Author.Needs.{needs}
 use denote.Ref.{now}
-use Rattle.narrow_search.proofs.Passes.{ended-word}
-use Rattle.narrow_search.proofs.ended.Statement.{statement}
-use Rattle.narrow_search.proofs.ended.Tie as tie
+use Rattle.narrow_pass.proofs.Passes.{ended-word}
+use Rattle.narrow_pass.proofs.ended.Statement.{statement}
+use Rattle.narrow_pass.proofs.ended.Tie as tie
 
 element-copy-out-kind : tie.Need-element-copy-out-kind
 element-copy-out-kind c = search needs

@@ -1,4 +1,4 @@
--- `narrow_search::add_opened` meets its contract: the sum fits, and is read back whole. Assumes nothing.
+-- `narrow_pass::add_opened` meets its contract: the sum fits, and is read back whole. Assumes nothing.
 use mathlib.Core.Path.{_≡_, sym, _∙_, ap, ap₂, subst}
 use Prim.Native.Nat.{_+_, _<_, _^_}
 use native.Mathlib.Omega.{arith}
@@ -10,9 +10,9 @@ use mir.ValLaws.{toZ-ofZ, toZ-pos}
 use denote.Ref.{now}
 use borrow.Author.Needs.{needs}
 use Rattle.foundation.specs.Words.{sfits-below, signedLimit}
-use Rattle.narrow_search.proofs.Passes.{count-word, count-put}
-use Rattle.narrow_search.proofs.add_opened.Statement.{statement}
-use Rattle.narrow_search.proofs.add_opened.Tie as tie
+use Rattle.narrow_pass.proofs.Passes.{count-word, count-put}
+use Rattle.narrow_pass.proofs.add_opened.Statement.{statement}
+use Rattle.narrow_pass.proofs.add_opened.Tie as tie
 
 -- what is added
 sum-is : (c : tie.After-count) → toZ w64 (ofZ w64 (getD (now (c .before .args .pass)) 6 (pos 0))) +ℤ toZ w64 (c .before .args .n) ≡ getD (now (c .before .args .pass)) 6 (pos 0) +ℤ pos (c .before .args .n)
