@@ -15,3 +15,4 @@ pub mod Passes
 pub mod Extremes
 pub mod Commute
 pub mod Clear
+pub mod NoMore
