@@ -8,3 +8,4 @@ pub mod Bounds
 pub mod Record
 pub mod Mesh
 pub mod Examples
+pub mod DepthExamples

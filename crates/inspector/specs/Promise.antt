@@ -1,4 +1,4 @@
--- Promise 3 of what the services write and answer: for any meshes in which the same eight points stand, whatever else they hold.
+-- Promise 3 of what the services write and answer: for any meshes in which the same eight points stand, whatever else they hold; and for any eight points within the limits, in a mesh of their own.
 use mathlib.Core.Path.{_≡_, sym, _∙_, ap, subst}
 use mathlib.Core.List.{List, [], _∷_, _++_}
 use mathlib.Core.Logic.{_⊎_, inl, inr}

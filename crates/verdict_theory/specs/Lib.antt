@@ -17,3 +17,4 @@ pub mod Passes
 pub mod Extremes
 pub mod Commute
 pub mod Clear
+pub mod NoMore

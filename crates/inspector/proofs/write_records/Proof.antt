@@ -27,6 +27,11 @@ Inv-loop coordinates indices depth report₀ counts₀ n e₀ report counts e = 
 abbrev μ-loop : tie.MeasureT-loop
 μ-loop coordinates indices depth report₀ counts₀ n e₀ report counts e = n - e
 
+-- the words that a turn writes are the record of its own element
+words-are : (w : tie.After-element Inv-loop μ-loop) → w .element .result ≡ recordAt base (now (w .before .before .before .before .before .args .coordinates)) (now (w .before .before .before .before .before .args .indices)) (w .before .before .before .before .before .args .depth) (w .before .before .before .loop .e)
+words-are w = let s = w .before .before .before .before .before in
+    w .element .ensures ∙ ap (λ (ix : List ℕ). elementRecord base (now (s .args .coordinates)) ix (s .args .depth)) (part-of (now (s .args .indices)) (w .before .before .before .loop .e))
+
 loop-holds : tie.Need-loop-holds Inv-loop μ-loop
 loop-holds c = (zero-le, refl, refl)
 
@@ -54,11 +59,6 @@ element-requires c κs = let l = c .before .before in let s = l .before .before 
 
 array-copy-out-kind : tie.Need-array-copy-out-kind Inv-loop μ-loop
 array-copy-out-kind c = search needs
-
--- what the element's record is
-words-are : (w : tie.After-element Inv-loop μ-loop) → w .element .result ≡ recordAt base (now (w .before .before .before .before .before .args .coordinates)) (now (w .before .before .before .before .before .args .indices)) (w .before .before .before .before .before .args .depth) (w .before .before .before .loop .e)
-words-are w = let s = w .before .before .before .before .before in
-    w .element .ensures ∙ ap (λ (ix : List ℕ). elementRecord base (now (s .args .coordinates)) ix (s .args .depth)) (part-of (now (s .args .indices)) (w .before .before .before .loop .e))
 
 kind-is : (c : tie.After-kind Inv-loop μ-loop) → toZ w64 (ofZ w64 (getD (c .before .element .result) 0 (pos 0))) ≡ kindWord (recordAt base (now (c .before .before .before .before .before .before .args .coordinates)) (now (c .before .before .before .before .before .before .args .indices)) (c .before .before .before .before .before .before .args .depth) (c .before .before .before .before .loop .e))
 kind-is c =

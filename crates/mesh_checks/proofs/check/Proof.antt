@@ -8,6 +8,20 @@ use Rattle.mesh_checks.proofs.check.Tie as tie
 returns : tie.Need-returns
 returns c = rw (refusal-by, lt-ltb 3 _ (c .if1 .taken))
 
+returns-5 : tie.Need-returns-5
+returns-5 c =
+    let second = c .before .before in
+    let first = second .before .before in
+    rw (
+      refusal-by,
+      le-ltb 3 _ (first .before .if1 .left),
+      ← first .well-sized .ensures,
+      not-false (first .well-sized .result) (second .before .if2 .left),
+      ← second .well-sized2 .ensures,
+      not-false (second .well-sized2 .result) (c .before .if3 .left),
+      eq-eqb _ _ (c .if4 .left),
+    )
+
 well-sized-requires : tie.Need-well-sized-requires
 well-sized-requires c κs = search needs
 
@@ -47,20 +61,6 @@ returns-4 c =
       ← second .well-sized2 .ensures,
       not-false (second .well-sized2 .result) (c .before .if3 .left),
       ne-eqb _ _ (c .if4 .taken),
-    )
-
-returns-5 : tie.Need-returns-5
-returns-5 c =
-    let second = c .before .before in
-    let first = second .before .before in
-    rw (
-      refusal-by,
-      le-ltb 3 _ (first .before .if1 .left),
-      ← first .well-sized .ensures,
-      not-false (first .well-sized .result) (second .before .if2 .left),
-      ← second .well-sized2 .ensures,
-      not-false (second .well-sized2 .result) (c .before .if3 .left),
-      eq-eqb _ _ (c .if4 .left),
     )
 
 pub check-spec : {M : Type 1} → statement M

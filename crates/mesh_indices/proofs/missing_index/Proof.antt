@@ -33,6 +33,11 @@ cast-index c = omega (arith, c .shared-slice-known .given (c .before .before .lo
 cast-t9 : tie.Need-cast-t9 Inv-loop μ-loop
 cast-t9 c = search needs
 
+loop-again : tie.Need-loop-again Inv-loop μ-loop
+loop-again c =
+    let passed = c .before .before .before in
+    (omega arith, passed .loop .inv .1 ∙ first-later _ (passed .loop .k) 8 (omega arith) (lt-leb _ _ (c .if1 .left)))
+
 returns : tie.Need-returns Inv-loop μ-loop
 returns c =
     let found = c .before .before .before in
@@ -43,11 +48,6 @@ add-k c = search needs
 
 loop-less : tie.Need-loop-less Inv-loop μ-loop
 loop-less c = search needs
-
-loop-again : tie.Need-loop-again Inv-loop μ-loop
-loop-again c =
-    let passed = c .before .before .before in
-    (omega arith, passed .loop .inv .1 ∙ first-later _ (passed .loop .k) 8 (omega arith) (lt-leb _ _ (c .if1 .left)))
 
 returns-2 : tie.Need-returns-2 Inv-loop μ-loop
 returns-2 c =

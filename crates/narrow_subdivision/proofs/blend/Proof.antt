@@ -41,6 +41,9 @@ mul-result c = exact-fits (c .before .before) (four 0) tt
 returns : tie.Need-returns
 returns c = exact (c .before .before) (four 0) 0 0 tt refl (omega arith) (omega arith)
 
+returns-2 : tie.Need-returns-2
+returns-2 c = exact (c .before .before .before) (plus (twice 0) (twice 1)) 0 1 tt refl (omega arith) (omega arith)
+
 mul-result-2 : tie.Need-mul-result-2
 mul-result-2 c = exact-fits (c .before .before .before) (twice 0) tt
 
@@ -49,9 +52,6 @@ mul-result-3 c = exact-fits (c .before .before .before) (twice 1) tt
 
 add-result : tie.Need-add-result
 add-result c = exact-fits (c .before .before .before) (plus (twice 0) (twice 1)) tt
-
-returns-2 : tie.Need-returns-2
-returns-2 c = exact (c .before .before .before) (plus (twice 0) (twice 1)) 0 1 tt refl (omega arith) (omega arith)
 
 mul-result-4 : tie.Need-mul-result-4
 mul-result-4 c = exact-fits (c .before .before .before) (twice 1) tt

@@ -36,6 +36,11 @@ two = minus (times (arg 0) minor-x) (times (arg 1) minor-y)
 abbrev three : Op
 three = plus two (times (arg 2) minor-z)
 
+-- what is answered
+returns : tie.Need-returns
+returns c = held-is (args (numbers c)) (λ _. middleLimit) (within middleLimit (numbers c) (c .pre)) three tt
+
+-- what each operation asks
 mul-result : tie.Need-mul-result
 mul-result c = fit c (vw 4 8) tt
 
@@ -77,9 +82,6 @@ mul-result-9 c = fit c (times (arg 2) minor-z) tt
 
 add-result : tie.Need-add-result
 add-result c = fit c three tt
-
-returns : tie.Need-returns
-returns c = held-is (args (numbers c)) (λ _. middleLimit) (within middleLimit (numbers c) (c .pre)) three tt
 
 pub determinant-spec : {M : Type 1} → statement M
 determinant-spec =
