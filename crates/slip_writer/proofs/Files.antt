@@ -1,11 +1,9 @@
 -- The slip of a file, by what its reading hands out. Assumes nothing.
 use mathlib.Core.Path.{_≡_, refl, sym, _∙_, ap, ap₂}
-use mathlib.Core.Bool.{Bool, true, false}
 use mathlib.Core.List.{List}
-use Prim.Native.Nat.{ℕ, _*_, _/_, _<_, _≤_}
+use Prim.Native.Nat.{ℕ, _*_, _/_, _≤_}
 use native.Mathlib.Omega.{arith}
-use borrow.Author.Tests.{eq-eqb, ne-eqb, le-leb, lt-leb}
-use lib.Dec.{eqb, leb}
+use lib.Dec.{leb}
 use lib.ListN.{getD, length, drop, length-append, length-map}
 use Rattle.foundation.specs.Lists.{All}
 use Rattle.foundation.specs.Laid.{laidOver}
@@ -13,13 +11,14 @@ use Rattle.definitions.specs.Limits.{base}
 use Rattle.lot_format.specs.Numbers.{Byte}
 use Rattle.lot_format.specs.Format.{lotFile, Lot, Group}
 use Rattle.lot_format.specs.Runs.{Runs, runsOf, lotFrom}
-use Rattle.lot_format.specs.Reading.{Unreadable, unreadableNumber, tooManyElements, Reading, readable, unreadable, readLot, reading, lotOf, readingNumber, readingNumbers}
+use Rattle.lot_format.specs.Reading.{Unreadable, unreadableNumber, Reading, readable, unreadable, readLot, reading, lotOf, readingNumber, readingNumbers}
 use Rattle.lot_format.specs.RunLaws.{lot-back}
 use Rattle.lot_format.specs.Numbered.{not-zero}
 use Rattle.lot_roundtrip_theory.specs.Ample.{ample, ample-room}
-use Rattle.lot_reader.specs.Promise.{readOver, Read, asRead, read-runs}
+use Rattle.lot_reader.specs.Promise.{readOver, Read, read-runs}
 use Rattle.slip_format.specs.Slip.{slipLimits, refusedLine, meshSlip, slipIf, lotSlip, slipOf}
-use Rattle.slip_writer.specs.Counted.{Counted, answeredSlip}
+use Rattle.slip_answers.specs.Counted.{Counted, answeredSlip}
+use Rattle.slip_answers.specs.Answered.{refused-by, counted-by}
 
 -- lent runs that are large enough for any lot
 pub record Ample (lent : Runs) : Type 0 where
@@ -39,29 +38,7 @@ slip-by : (file : List ℕ) (r : Reading) → readLot lotFile file ≡ r → sli
 unfolding slipOf
 slip-by file r e = ap slipBy e
 
--- ---- the slip by the answer
-module _ (now : Runs) (answer : List ℕ) where
-  abbrev countedBy : Bool → List ℕ
-  countedBy b = slipIf b (meshSlip base (slipLimits .depth) (lotFrom (asRead now answer)))
-
-  abbrev numberedBy : Bool → List ℕ
-  numberedBy b = elim b [ false ↦ refusedLine (getD answer 0 0) | true ↦ countedBy (leb (getD answer 2 0) (slipLimits .elements)) ]
-
-  pub refused-by : (getD answer 0 0 ≡ 0 → ⊥) → refusedLine (getD answer 0 0) ≡ answeredSlip now answer
-  unfolding answeredSlip
-  refused-by h = sym (ap numberedBy (ne-eqb (getD answer 0 0) 0 h))
-
-  counted-by : getD answer 0 0 ≡ 0 → (b : Bool) → leb (getD answer 2 0) (slipLimits .elements) ≡ b → countedBy b ≡ answeredSlip now answer
-  unfolding answeredSlip
-  counted-by z b e = sym (ap countedBy e) ∙ sym (ap numberedBy (eq-eqb (getD answer 0 0) 0 z))
-
-  pub many-by : getD answer 0 0 ≡ 0 → slipLimits .elements < getD answer 2 0 → refusedLine (unreadableNumber tooManyElements) ≡ answeredSlip now answer
-  many-by z h = counted-by z false (lt-leb (getD answer 2 0) (slipLimits .elements) h)
-
-  pub few-by : getD answer 0 0 ≡ 0 → getD answer 2 0 ≤ slipLimits .elements → meshSlip base (slipLimits .depth) (lotFrom (asRead now answer)) ≡ answeredSlip now answer
-  few-by z h = counted-by z true (le-leb (getD answer 2 0) (slipLimits .elements) h)
-
--- ---- and it is that of the file
+-- ---- the slip by the answer of the reading is that of the file
 module _ (file : List ℕ) (lent now : Runs) (answer : List ℕ) (bytes : All Byte file) (x : Read file lent now answer) where
   word : (k : ℕ) → getD answer k 0 ≡ getD (readingNumbers (readOver file lent)) k 0
   word k = ap (λ (l : List ℕ). getD l k 0) (x .answer-is)

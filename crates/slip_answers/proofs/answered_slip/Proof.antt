@@ -7,10 +7,10 @@ use borrow.Author.Needs.{needs}
 use lib.ListN.{length}
 use Rattle.lot_format.specs.Runs.{Runs}
 use Rattle.bytes_output.specs.Behind.{laid-as}
-use Rattle.slip_writer.specs.Counted.{lent}
-use Rattle.slip_writer.proofs.Files.{refused-by, many-by, few-by}
-use Rattle.slip_writer.proofs.answered_slip.Statement.{statement}
-use Rattle.slip_writer.proofs.answered_slip.Tie as tie
+use Rattle.slip_answers.specs.Counted.{lent}
+use Rattle.slip_answers.specs.Answered.{refused-by, many-by, few-by}
+use Rattle.slip_answers.proofs.answered_slip.Statement.{statement}
+use Rattle.slip_answers.proofs.answered_slip.Tie as tie
 
 -- the runs that are handed in, and the five numbers of the reading
 abbrev lentIn : tie.Start → Runs
