@@ -1,54 +1,15 @@
 // The printed slip of a lot: the service `write`. Nothing has to be checked first: it takes any bytes, and states its whole answer, every
 // byte of lent space included, as an equation with `Slip` of the crate `slip_format` at the limits `base`, `lotFile` and `slipLimits`.
-// The other functions lay the slip over lent space from a place on, return the place behind it, and leave it to their callers that there
-// is room.
+// `file_slip` lays the slip over lent space from a place on, returns the place behind it, and leaves it to its caller that there is room.
 ghost use mathlib.Core.Path.{_≡_};
 ghost use Prim.Native.Nat.{_+_, _*_, _≤_};
 ghost use lib.ListN.{length};
 ghost use Rattle.foundation.specs.Laid.{laidOver};
 ghost use Rattle.definitions.specs.Limits.{recordWords, base};
-ghost use Rattle.slip_format.specs.Slip.{slipLimits, slipBytes, meshSlip, slipOf};
+ghost use Rattle.slip_format.specs.Slip.{slipLimits, slipBytes, slipOf};
 ghost use Rattle.lot_format.specs.Format.{lotFile};
-ghost use Rattle.lot_format.specs.Runs.{lotFrom};
 ghost use Rattle.lot_roundtrip_theory.specs.Ample.{ample};
-ghost use Rattle.lot_reader.specs.Promise.{asRead};
 ghost use Rattle.bytes_output.specs.Behind.{Laid};
-ghost use Rattle.slip_writer.specs.Counted.{lent, Counted};
-
-// The slip of a lot that was read into lent runs, by the five numbers of the reading.
-fn read_slip<'a>(
-    out: &mut [u8],
-    at: usize,
-    label: &'a [u8],
-    nodes: &[i32],
-    elements: &[u32],
-    names: &'a [u8],
-    lengths: &[u32],
-    offsets: &[u32],
-    report: &mut [i64],
-    answer: [u32; 5],
-) -> usize
-    requires { ⌜ Counted (lent (now label) (now nodes) (now elements) (now names) (now lengths) (now offsets)) answer × (length (now report) ≡ recordWords * slipLimits .elements) ⌝ }
-    requires { ⌜ at + length (meshSlip base (slipLimits .depth) (lotFrom (asRead (lent (now label) (now nodes) (now elements) (now names) (now lengths) (now offsets)) answer))) ≤ length (now out) ⌝ }
-    ensures { λ r. ⌜ Laid at (meshSlip base (slipLimits .depth) (lotFrom (asRead (lent (now (label .entry)) (now (nodes .entry)) (now (elements .entry)) (now (names .entry)) (now (lengths .entry)) (now (offsets .entry))) answer))) (now (out .entry)) (now (out .exit)) r ⌝ }
-{
-    let coordinates = 3 * answer[1] as usize;
-    let indices = 8 * answer[2] as usize;
-    let words = limits::RECORD_WORDS * answer[2] as usize;
-    let groups = answer[3] as usize;
-    let bytes = answer[4] as usize;
-    slip_parts::mesh_slip(
-        out,
-        at,
-        label,
-        &nodes[..coordinates],
-        &elements[..indices],
-        &names[..bytes],
-        &lengths[..groups],
-        &offsets[..groups],
-        &mut report[..words],
-    )
-}
 
 // The slip of a file, with lent space for what its lot holds, as much as any lot needs, and for the report of as many elements as a slip
 // prints.
@@ -69,15 +30,7 @@ fn file_slip(
 {
     let mut answer = [0u32; 5];
     let label = lot_reader::read(file, nodes, elements, names, lengths, offsets, &mut answer);
-    let number = answer[0];
-    if number != 0 {
-        return slip_lines::refused_line(out, at, number);
-    }
-    let count = answer[2] as usize;
-    if limits::SLIP_ELEMENTS < count {
-        return slip_lines::refused_line(out, at, 26);
-    }
-    read_slip(
+    slip_answers::answered_slip(
         out,
         at,
         label,

@@ -3,7 +3,7 @@ use mathlib.Core.Path.{refl}
 use Prim.Native.Nat.{ℕ, _+_, _*_, _<_}
 use native.Mathlib.Omega.{arith}
 use borrow.Author.Needs.{needs}
-use Rattle.narrow_subdivision.specs.Rows.{inLine, Row}
+use Rattle.expansion_theory.specs.Rows.{inLine, Row}
 use Rattle.narrow_subdivision.proofs.halve_xi.Statement.{statement}
 use Rattle.narrow_subdivision.proofs.halve_xi.Tie as tie
 

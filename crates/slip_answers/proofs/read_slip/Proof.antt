@@ -7,8 +7,8 @@ use lib.ListN.{getD}
 use lib.Seq.{length-take-le}
 use Rattle.definitions.specs.Limits.{recordWords}
 use borrow.Author.Needs.{needs}
-use Rattle.slip_writer.proofs.read_slip.Statement.{statement}
-use Rattle.slip_writer.proofs.read_slip.Tie as tie
+use Rattle.slip_answers.proofs.read_slip.Statement.{statement}
+use Rattle.slip_answers.proofs.read_slip.Tie as tie
 
 -- the five numbers of the reading
 abbrev answerIn : tie.Start → List ℕ
@@ -72,15 +72,15 @@ slice-relend-prefix-mesh-slip : tie.Need-slice-relend-prefix-mesh-slip
 slice-relend-prefix-mesh-slip c = search needs
 
 slice-aggregate-mesh-slip-6 : tie.Need-slice-aggregate-mesh-slip-6
-slice-aggregate-mesh-slip-6 c = let s = c .before .before .before .before .before .before .before .before .before .before .before .before .before in sym (length-take-le (recordWords * getD (answerIn s) 2 0) (s .args .report .now) (omega (arith, s .pre .0 .1, s .pre .0 .0 .few)))
+slice-aggregate-mesh-slip-6 c = let s = c .before .before .before .before .before .before .before .before .before .before .before .before .before in sym (length-take-le (recordWords * getD (answerIn s) 2 0) (s .args .report .now) (omega (arith, s .pre .0)))
 
 mesh-slip-requires : tie.Need-mesh-slip-requires
 mesh-slip-requires c κs =
     let s = c .before .before .before .before .before .before .before .before .before .before .before .before .before in
     let h = s .pre .0 .0 in
     let long = length-take-le (8 * getD (answerIn s) 2 0) (s .args .elements .now) (h .elements) in
-    let room = length-take-le (recordWords * getD (answerIn s) 2 0) (s .args .report .now) (omega (arith, s .pre .0 .1, h .few)) in
-    ((omega (arith, h .few), omega arith), s .pre .1)
+    let room = length-take-le (recordWords * getD (answerIn s) 2 0) (s .args .report .now) (omega (arith, s .pre .0)) in
+    ((omega (arith, s .pre .0), omega arith), s .pre .1)
 
 same-length : tie.Need-same-length
 same-length c = search needs
