@@ -1,7 +1,7 @@
 -- `inspector::write_records` meets its contract: before each turn the first e records are written and counted, and the space after them is as it was. Assumes nothing.
 use mathlib.Core.Path.{_≡_, refl, sym, ap, _∙_}
 use mathlib.Core.List.{List}
-use Prim.Native.Nat.{ℕ, _*_, _-_, _/_, _≤_, zero-le}
+use Prim.Native.Nat.{ℕ, _*_, _-_, _/_, _≤_}
 use native.Mathlib.Omega.{arith}
 use lib.ListN.{getD, length, take, drop}
 use lib.IntN.{ℤ, pos, negsuc}
@@ -33,7 +33,7 @@ words-are w = let s = w .before .before .before .before .before in
     w .element .ensures ∙ ap (λ (ix : List ℕ). elementRecord base (now (s .args .coordinates)) ix (s .args .depth)) (part-of (now (s .args .indices)) (w .before .before .before .loop .e))
 
 loop-holds : tie.Need-loop-holds Inv-loop μ-loop
-loop-holds c = (zero-le, refl, refl)
+loop-holds c = (omega arith, refl, refl)
 
 mul-at : tie.Need-mul-at Inv-loop μ-loop
 mul-at c = search needs

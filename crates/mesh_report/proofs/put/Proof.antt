@@ -1,7 +1,7 @@
 -- `put` meets its contract. The loop's invariant: the first `k` words stand in the report space. Assumes nothing.
 use mathlib.Core.Path.{_≡_, refl, sym, ap, _∙_}
 use mathlib.Core.List.{List, _++_}
-use Prim.Native.Nat.{ℕ, _+_, _-_, _*_, _≤_, _<_, zero-le}
+use Prim.Native.Nat.{ℕ, _+_, _-_, _*_, _≤_, _<_}
 use native.Mathlib.Numerals.{add-one}
 use native.Mathlib.Omega.{arith}
 use borrow.Author.Needs.{needs}
@@ -20,11 +20,20 @@ Inv-loop report₀ e words at k₀ report k = (k ≤ recordWords) × (report ≡
 abbrev μ-loop : tie.MeasureT-loop
 μ-loop report₀ e words at k₀ report k = recordWords - k
 
+returns : tie.Need-returns Inv-loop μ-loop
+returns c =
+    let s = c .before .before in
+    let at = recordWords * s .args .e in
+    let h : c .before .loop .k ≡ recordWords = omega arith in
+    c .before .loop .inv .1
+    ∙ ap (λ (k : ℕ). paste (s .args .report .now) at (s .args .t3) k) h
+    ∙ ap (λ (w : List ℤ). take at (s .args .report .now) ++ w ++ drop (at + recordWords) (s .args .report .now)) (take-all recordWords (s .args .t3) (omega arith))
+
 mul-at : tie.Need-mul-at Inv-loop μ-loop
 mul-at c = search needs
 
 loop-holds : tie.Need-loop-holds Inv-loop μ-loop
-loop-holds c = (zero-le, paste-zero (c .args .report .now) (recordWords * c .args .e) (c .args .t3), refl, search needs)
+loop-holds c = (omega arith, paste-zero (c .args .report .now) (recordWords * c .args .e) (c .args .t3), refl, search needs)
 
 mul-x : tie.Need-mul-x Inv-loop μ-loop
 mul-x c = search needs
@@ -66,15 +75,6 @@ loop-again c =
 
 same-length : tie.Need-same-length Inv-loop μ-loop
 same-length c = c .before .loop .inv .2
-
-returns : tie.Need-returns Inv-loop μ-loop
-returns c =
-    let s = c .before .before in
-    let at = recordWords * s .args .e in
-    let h : c .before .loop .k ≡ recordWords = omega arith in
-    c .before .loop .inv .1
-    ∙ ap (λ (k : ℕ). paste (s .args .report .now) at (s .args .t3) k) h
-    ∙ ap (λ (w : List ℤ). take at (s .args .report .now) ++ w ++ drop (at + recordWords) (s .args .report .now)) (take-all recordWords (s .args .t3) (omega arith))
 
 pub put-spec : {M : Type 1} → statement M
 put-spec =
