@@ -9,6 +9,7 @@ use borrow.Author.Tests.{lt-ltb, le-ltb}
 use lib.ListN.{length, length-append}
 use lib.IntN.{ℤ, pos, negsuc}
 use lib.Signed.{mag}
+use Rattle.foundation.specs.Words.{signedLimit}
 use Rattle.slip_format.specs.Decimal.{digits, decimal, signedDecimal}
 
 -- ---- one digit
@@ -52,6 +53,6 @@ decimal-short x h = decimal-length 3 x h
 pub decimal-32 : (x : ℕ) → x < 2 ^ 32 → length (decimal x) ≤ 10
 decimal-32 x h = decimal-length 9 x (omega arith)
 
-pub signed-length : (z : ℤ) → mag z < 2 ^ 63 → length (signedDecimal z) ≤ 20
+pub signed-length : (z : ℤ) → mag z < signedLimit → length (signedDecimal z) ≤ 20
 signed-length (pos x) h = omega (arith, decimal-length 18 x (omega arith))
 signed-length (negsuc x) h = omega (arith, decimal-length 18 (suc x) (omega arith))

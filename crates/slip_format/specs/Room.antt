@@ -9,6 +9,7 @@ use lib.Dec.{leb}
 use lib.ListN.{length, take, drop, length-append, length-take, length-map, take-append-drop}
 use lib.IntN.{ℤ}
 use lib.Signed.{mag}
+use Rattle.foundation.specs.Words.{signedLimit}
 use Rattle.foundation.specs.Lists.{All, all-left, all-right, all-map, all-image, concatMap}
 use Rattle.definitions.specs.Limits.{recordWords}
 use Rattle.definitions.specs.Mesh.{Counts, Stamp, sound, faulty, «open», stampOf}
@@ -23,7 +24,7 @@ abbrev pub Short : List ℕ → Type 0
 Short name = length name ≤ 32
 
 abbrev pub Held : ℤ → Type 0
-Held z = mag z < 2 ^ 63
+Held z = mag z < signedLimit
 
 -- ---- words behind spaces
 words-length : (m : ℕ) (ws : List (List ℕ)) → All (λ w. length w ≤ m) ws → length (concatMap (λ (w : List ℕ). 32 ∷ w) ws) ≤ suc m * length ws

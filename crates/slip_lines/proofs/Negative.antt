@@ -11,6 +11,7 @@ use lib.Signed.{ltZ, nonNeg}
 use mir.Syntax.{w64}
 use mir.Val.{SFits, Fits, toZ, ofZ}
 use mir.Facts.{toZ-ofZ}
+use Rattle.foundation.specs.Words.{signedLimit}
 use Rattle.foundation.specs.Magnitude.{magnitude-neg}
 use Rattle.foundation.specs.Words.{sfits-below}
 use Rattle.slip_format.specs.Decimal.{decimal, signedDecimal}
@@ -18,7 +19,7 @@ use Rattle.slip_format.specs.Decimal.{decimal, signedDecimal}
 pub record Negative (w : ℤ) : Type 0 where
   pub less : ℕ
   pub is : w ≡ negsuc less
-  pub small : less < 2 ^ 63
+  pub small : less < signedLimit
 
 not-below : (n : ℕ) → T (ltZ (pos n) (pos 0)) → ⊥
 not-below n t = let h : n < 0 = ltb→lt n 0 t in omega arith
@@ -27,7 +28,7 @@ pub negative : (w : ℤ) → SFits w64 w → ltZ w (pos 0) ≡ true → Negative
 negative (pos n) f e = absurd (not-below n (subst T (sym e) tt))
 negative (negsuc n) f e = record { less = n; is = refl; small = f .sfits }
 
-module _ (n : ℕ) (h : n < 2 ^ 63) where
+module _ (n : ℕ) (h : n < signedLimit) where
   fits : SFits w64 (pos n)
   fits = sfits-below (pos n) (le-refl n) h
 

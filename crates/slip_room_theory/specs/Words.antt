@@ -8,7 +8,7 @@ use native.Mathlib.Nat.{le-trans, mul-le-mul-left, pow-le-pow-right}
 use native.Mathlib.Omega.{arith}
 use lib.ListN.{getD, length, take, drop, take-append-drop}
 use lib.IntN.{ℤ, pos, natAbs}
-use Rattle.foundation.specs.Lists.{All, all-left, all-right, all-map, all-both, all-getD-default, all-concat, all-tabulate, concatMap}
+use Rattle.foundation.specs.Lists.{All, all-left, all-right, all-map, all-both, all-getD-default, all-concat, all-tabulate, concatMap, up}
 use Rattle.foundation.specs.Words.{within, sfits-below}
 use Rattle.definitions.specs.Limits.{base}
 use Rattle.definitions.specs.Subdivision.{Cell, cells}
@@ -29,47 +29,46 @@ use Rattle.mesh_points.specs.Points.{points-within, length-points}
 use Rattle.mesh_elements.specs.Elements.{fault-missing, fault-twice, fault-outside, fault-none}
 use Rattle.slip_format.specs.Room.{Held}
 
--- the largest magnitude that is held at depth 3
+-- the largest magnitude of a coefficient, and that of one within the limits
+abbrev size : ℕ → ℕ
+size m = 384 * base .range ^ 3 * 64 ^ m
+
 abbrev Largest : ℤ → Type 0
-Largest v = natAbs v ≤ 6917529027641081856
+Largest v = natAbs v ≤ size (base .depth)
 
 largest-held : (v : ℤ) → Largest v → Held v
 largest-held v h = sfits-below v h (omega arith) .sfits
 
-few-opened : (D : ℕ) → D ≤ 3 → most D ≤ 585
-few-opened zero h = omega arith
-few-opened (suc zero) h = omega arith
-few-opened (suc (suc zero)) h = omega arith
-few-opened (suc (suc (suc zero))) h = omega arith
-few-opened (suc (suc (suc (suc D)))) h = absurd (omega arith)
+few-opened : (D : ℕ) → D ≤ base .depth → most D ≤ most (base .depth)
+few-opened D h = up (λ k. most D ≤ most k) (λ k q. omega arith) D (base .depth) h (omega arith)
 
-grid-small : (m : ℕ) → m ≤ 3 → 2 ^ m ≤ 8
+grid-small : (m : ℕ) → m ≤ base .depth → 2 ^ m ≤ 2 ^ base .depth
 grid-small m h = pow-le-pow-right {n = 2} (omega arith) h
 
-level-largest : (m : ℕ) → m ≤ 3 → 384 * 4096 ^ 3 * 64 ^ m ≤ 6917529027641081856
-level-largest m h = mul-le-mul-left (384 * 4096 ^ 3) (pow-le-pow-right {n = 64} (omega arith) h)
+level-largest : (m : ℕ) → m ≤ base .depth → size m ≤ size (base .depth)
+level-largest m h = mul-le-mul-left (384 * base .range ^ 3) (pow-le-pow-right {n = 64} (omega arith) h)
 
 -- ---- the record of eight points
 module _ (xs : List ℤ) (sized : length xs ≡ 24) (inside : outOfRange base xs ≡ none) where
-  controls : (m : ℕ) → m ≤ 3 → All (λ s. All Largest (s .control)) (cells xs m)
-  controls m h = all-map (λ s. All (λ v. natAbs v ≤ 384 * 4096 ^ 3 * 64 ^ m) (s .control)) (λ s. All Largest (s .control))
-      (λ s. all-map (λ v. natAbs v ≤ 384 * 4096 ^ 3 * 64 ^ m) Largest (λ v l. le-trans l (level-largest m h)) (s .control))
-      (cells xs m) (coefficient-size xs 4096 (within 4096 xs (points-within base xs inside sized)) m)
+  controls : (m : ℕ) → m ≤ base .depth → All (λ s. All Largest (s .control)) (cells xs m)
+  controls m h = all-map (λ s. All (λ v. natAbs v ≤ size m) (s .control)) (λ s. All Largest (s .control))
+      (λ s. all-map (λ v. natAbs v ≤ size m) Largest (λ v l. le-trans l (level-largest m h)) (s .control))
+      (cells xs m) (coefficient-size xs (base .range) (within (base .range) xs (points-within base xs inside sized)) m)
 
   control-at : (s : Cell) (n : ℕ) → All Largest (s .control) → Largest (getD (s .control) n (pos 0))
   control-at s n h = all-getD-default Largest (s .control) (pos 0) n (omega arith) h
 
-  coefficients-largest : (m : ℕ) → m ≤ 3 → All (λ f. Largest (f .value)) (concatMap coefficientsOf (cells xs m))
+  coefficients-largest : (m : ℕ) → m ≤ base .depth → All (λ f. Largest (f .value)) (concatMap coefficientsOf (cells xs m))
   coefficients-largest m h = all-concat (λ f. Largest (f .value)) coefficientsOf (cells xs m)
       (all-map (λ s. All Largest (s .control)) (λ s. All (λ f. Largest (f .value)) (coefficientsOf s)) (λ s g. findings-of Largest s (λ n _. control-at s n g)) (cells xs m) (controls m h))
 
-  points-largest : (m : ℕ) → m ≤ 3 → All (λ f. Largest (f .value)) (concatMap (cornersOf xs m) (cells xs m))
+  points-largest : (m : ℕ) → m ≤ base .depth → All (λ f. Largest (f .value)) (concatMap (cornersOf xs m) (cells xs m))
   points-largest m h = all-concat (λ f. Largest (f .value)) (cornersOf xs m) (cells xs m)
       (all-map (λ s. CellOf xs m s × All Largest (s .control)) (λ s. All (λ f. Largest (f .value)) (cornersOf xs m s))
       (λ s g. corners-of xs (λ f. Largest (f .value)) m s (λ k l. subst Largest (corner-is xs m s (g .0) k l) (control-at s k (g .1))))
       (cells xs m) (all-both (CellOf xs m) (λ s. All Largest (s .control)) (cells xs m) (all-cells xs m) (controls m h)))
 
-  words-held : (D n : ℕ) (v : Verdict) → D ≤ 3 → n ≤ 585 → Means xs D v → All Held (verdictWords v n)
+  words-held : (D n : ℕ) (v : Verdict) → D ≤ base .depth → n ≤ most (base .depth) → Means xs D v → All Held (verdictWords v n)
   words-held D n (valid l) h k m =
       let low = m .within in
       (omega arith, (omega arith, (omega arith, (omega arith, (omega arith, (omega arith, (omega arith, (omega arith, tt))))))))
@@ -91,7 +90,7 @@ module _ (xs : List ℤ) (sized : length xs ≡ 24) (inside : outOfRange base xs
       let value = largest-held (f .value) (first-has (λ x. Largest (x .value)) (concatMap coefficientsOf (cells xs D)) f (m .named) (coefficients-largest D h)) in
       (omega arith, (omega arith, (omega (arith, cell .a-below), (omega (arith, cell .b-below), (omega (arith, cell .c-below), (omega (arith, c .number), (value, (omega arith, tt))))))))
 
-  pub record-held : (D : ℕ) → D ≤ 3 → All Held (recordOf xs D)
+  pub record-held : (D : ℕ) → D ≤ base .depth → All Held (recordOf xs D)
   unfolding recordOf
   record-held D h = words-held D (opened xs D) (verdict xs D) h (le-trans (opened-most xs D) (few-opened D h)) (means xs D)
 
@@ -99,7 +98,7 @@ module _ (xs : List ℤ) (sized : length xs ≡ 24) (inside : outOfRange base xs
 abbrev Index : ℕ → Type 0
 Index x = x < 2 ^ 32
 
-module _ (coordinates : List ℤ) (ix : List ℕ) (small : All Index ix) (D : ℕ) (shallow : D ≤ 3) where
+module _ (coordinates : List ℤ) (ix : List ℕ) (small : All Index ix) (D : ℕ) (shallow : D ≤ base .depth) where
   outside-below : (k : ℕ) → outOfRange base (pointsOf coordinates ix) ≡ some k → k < 24
   unfolding outOfRange
   outside-below k e = first-below (λ j. not (usable base (getD (pointsOf coordinates ix) j (pos 0)))) 0 24 k e
@@ -131,7 +130,7 @@ part n m ix h =
     let rest = all-right Index (take m ix) (drop m ix) (rw take-append-drop h) in
     all-left Index (take n (drop m ix)) (drop n (drop m ix)) (rw take-append-drop rest)
 
-pub report-held : (coordinates : List ℤ) (indices : List ℕ) → All (λ x. x < 2 ^ 32) indices → (D : ℕ) → D ≤ 3 → All Held (report base coordinates indices D)
+pub report-held : (coordinates : List ℤ) (indices : List ℕ) → All (λ x. x < 2 ^ 32) indices → (D : ℕ) → D ≤ base .depth → All Held (report base coordinates indices D)
 unfolding report records
 report-held coordinates indices h D shallow = all-concat Held (λ r. r) (records base coordinates indices D)
     (all-tabulate (λ r. All Held r) (λ e. elementRecord base coordinates (take 8 (drop (8 * e) indices)) D) 0 (length indices / 8)
