@@ -1,5 +1,6 @@
 // Inspects the worked elements of the scope document, and one that names a node three times, and prints their records and bounds at every depth.
 use inspector::Bounds;
+use limits::RECORD_WORDS;
 
 const UNIT_CUBE: [i32; 24] = [
     0,
@@ -36,8 +37,8 @@ fn print_signed(w: i64) {
     io::print_decimal(1, slip_lines::magnitude(w));
 }
 
-fn print_record(report: [i64; 8]) {
-    for k in 0..8 {
+fn print_record(report: [i64; RECORD_WORDS]) {
+    for k in 0..RECORD_WORDS {
         io::write_all(1, b" ");
         let w = report[k];
         print_signed(w);
@@ -81,7 +82,7 @@ fn print_bounds(points: [i32; 24], depth: u32) {
 
 // One element at one depth.
 fn print_line(points: [i32; 24], indices: [u32; 8], depth: u32) {
-    let mut report = [0i64; 8];
+    let mut report = [0i64; RECORD_WORDS];
     inspector::inspect(&points, &indices, depth, &mut report);
     io::write_all(1, b"   depth ");
     io::print_decimal(1, depth as u64);

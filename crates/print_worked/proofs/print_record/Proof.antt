@@ -1,14 +1,15 @@
 -- `print_worked::print_record` meets its contract: k stays within the record. Assumes nothing.
 use Prim.Native.Nat.{_≤_, _-_}
 use borrow.Author.Needs.{needs}
+use Rattle.definitions.specs.Limits.{recordWords}
 use Rattle.print_worked.proofs.print_record.Statement.{statement}
 use Rattle.print_worked.proofs.print_record.Tie as tie
 
 abbrev Inv-loop : tie.InvT-loop
-Inv-loop report k₀ t5 k = k ≤ 8
+Inv-loop report k₀ t5 k = k ≤ recordWords
 
 abbrev μ-loop : tie.MeasureT-loop
-μ-loop report k₀ t5 k = 8 - k
+μ-loop report k₀ t5 k = recordWords - k
 
 loop-holds : tie.Need-loop-holds Inv-loop μ-loop
 loop-holds c = search needs
