@@ -1,4 +1,4 @@
--- Document 01's case E, invalid at depth 1, at greater depths: its record stays the same in every word. So opening ends at the cube of an invalid answer, however deep the look.
+-- Document 01's case E, invalid at depth 1, at depth 2 too: its record stays the same in every word. So opening ends at the cube of an invalid answer. At depth 3: `verdict_theory`, `Examples`.
 use mathlib.Core.Path.{_≡_, refl}
 use mathlib.Core.List.{[], _∷_}
 use lib.IntN.{pos}
@@ -10,6 +10,6 @@ use Rattle.definitions.specs.Verdict.{cornersOf, coefficientsOf, lowPoin
 use Rattle.definitions.specs.Record.{words, recordOf}
 use Rattle.definitions.specs.Examples.{halfTwist}
 
-pub invalid-stays : All (λ D. recordOf halfTwist D ≡ words 1 1 0 0 1 5 (pos 0) 2) (1 ∷ 2 ∷ 3 ∷ [])
+pub invalid-stays : All (λ D. recordOf halfTwist D ≡ words 1 1 0 0 1 5 (pos 0) 2) (1 ∷ 2 ∷ [])
 unfolding jacobian scaledJacobian numbered at coefficients halve child children whole cornersOf coefficientsOf lowPoint lowCoefficient lastLevel validLevel verdict openedBelow openedCells opened recordOf
-invalid-stays = (refl, (refl, (refl, tt)))
+invalid-stays = (refl, (refl, tt))

@@ -12,16 +12,16 @@ ghost use Rattle.definitions.specs.Limits.{base, recordWords};
 ghost use Rattle.definitions.specs.Record.{recordOf};
 ghost use Rattle.definitions.specs.Mesh.{elementRecord, records, report as reportOf, countsOf, inspection, reportAfter, stampOf, boundsOf};
 ghost use Rattle.verdict_theory.specs.Kinds.{isKind, counted, countsTotal};
-ghost use Rattle.narrow_coefficients.specs.Range.{InRange};
+ghost use Rattle.narrow_volumes.specs.Range.{InRange};
 ghost use Rattle.search_theory.specs.Bounds.{boundsAt};
-ghost use Rattle.narrow_search.specs.Meaning.{extremesOf};
+ghost use Rattle.narrow_bounds.specs.Meaning.{extremesOf};
 ghost use Rattle.inspector.specs.Meaning.{countsHeld, inspectionHeld, stampHeld, boundsHeld};
 use limits::MAX_DEPTH;
 use limits::RECORD_WORDS;
 use mesh_checks::Checked;
 use mesh_elements::Element;
 use mesh_points::First;
-use narrow_search::Extremes;
+use narrow_bounds::Extremes;
 
 // The number of records of each kind.
 pub struct Counts {
@@ -180,7 +180,7 @@ fn points_bounds(p: &[i32; 24], depth: u32) -> Extremes
 {
     let mut g = [0i64; 27];
     narrow_coefficients::coefficients(p, &mut g);
-    narrow_search::bounds(&g, depth)
+    narrow_bounds::bounds(&g, depth)
 }
 
 // The low and the high bound of eight points, x, y, z of each, at a depth.

@@ -12,7 +12,7 @@ use Rattle.foundation.specs.Lists.{tabulate}
 use Rattle.foundation.specs.Polynomial.{integers}
 use Rattle.foundation.specs.Held.{Rep, leaf, weaken, mul, mul-fits, add-under, add-fits-under}
 use Rattle.definitions.specs.Coefficients.{row, dot}
-use Rattle.narrow_coefficients.specs.Range.{InRange, volumeLimit}
+use Rattle.narrow_volumes.specs.Range.{InRange, volumeLimit}
 use Rattle.coefficient_table.specs.Sparse.{AreSparseRows, entryAt, entries}
 use Rattle.coefficient_table.specs.SparseSum.{sparseDot, sparse-dot}
 use Rattle.coefficient_table.specs.SparseRuns.{row-held, row-short, row-inside, column-small, value-small}

@@ -7,11 +7,9 @@ ghost use Prim.Native.Nat.{_<_, _≤_};
 ghost use Rattle.foundation.specs.Lists.{tabulate};
 ghost use Rattle.foundation.specs.Polynomial.{integers};
 ghost use Rattle.definitions.specs.Coefficients.{row, dot, coefficients};
-ghost use Rattle.narrow_coefficients.specs.Range.{narrowRange, InRange, volumeLimit};
+ghost use Rattle.narrow_volumes.specs.Range.{narrowRange, InRange, volumeLimit};
 ghost use Rattle.narrow_coefficients.specs.Rows.{FirstRows};
 ghost use Rattle.coefficient_table.specs.Sparse.{AreSparseRows};
-
-mod volume;
 
 // Row n of the table against the twenty volumes: the terms of its non-zero places, added up from the last to the first, as the definition
 // nests its sum.
@@ -86,6 +84,6 @@ pub fn coefficients(p: &[i32; 24], out: &mut [i64; 27])
     let starts = lists.starts;
     let columns = lists.columns;
     let values = lists.values;
-    let v = volume::volumes(p);
+    let v = narrow_volumes::volumes(p);
     *out = rows(&starts, &columns, &values, &v);
 }

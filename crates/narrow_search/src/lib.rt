@@ -1,34 +1,27 @@
-// The recursive search of an element's cells, and its bounds, with numbers of one word. An inner crate, for the inspector's own crates: its
+// The recursive search of an element's cells, with numbers of one word. An inner crate, for the inspector's own crates: its
 // callers see to it that the numbers stay small enough at every level that is asked for (`Small`).
 ghost use mathlib.Core.Path.{_≡_};
 ghost use mathlib.Core.Bool.{false};
 ghost use mathlib.Core.List.{List};
 ghost use Prim.Native.Nat.{_+_, _^_, _<_, _≤_};
-ghost use lib.ListN.{length, take};
+ghost use lib.ListN.{length};
 ghost use lib.IntN.{ℤ};
-ghost use Rattle.foundation.specs.Least.{lesser as lesserOf, leastFrom};
 ghost use Rattle.definitions.specs.Jacobian.{side};
 ghost use Rattle.definitions.specs.Coefficients.{coefficients};
 ghost use Rattle.definitions.specs.Record.{recordOf};
-ghost use Rattle.definitions.specs.Subdivision.{halve, Cell};
+ghost use Rattle.definitions.specs.Subdivision.{halve};
 ghost use Rattle.expansion_theory.specs.Control.{Cuttable};
 ghost use Rattle.verdict_theory.specs.Search.{Pass, visit as visited};
-ghost use Rattle.verdict_theory.specs.Extremes.{extremes as extremesBelow};
 ghost use Rattle.search_theory.specs.Meaning.{cellOf, Small, deepest, Room, Held};
 ghost use Rattle.search_theory.specs.Children.{Ready, Run};
 ghost use Rattle.search_theory.specs.Levels.{wholeOf, fresh};
-ghost use Rattle.search_theory.specs.Bounds.{withControl, boundsAt};
 ghost use Rattle.narrow_subdivision.specs.Word.{largest};
 ghost use Rattle.narrow_pass.specs.Meaning.{passWords};
-ghost use Rattle.narrow_search.specs.Meaning.{extremesOf};
 use limits::RECORD_WORDS;
 use narrow_pass::PASS_WORDS;
 
-// The greatest number of a word.
-const GREATEST: i64 = 9223372036854775807;
-
 // The half of c in direction d that child k, 0 to 7, lies in: made where child k is the first in it, else there already.
-fn half_at(d: u32, first: bool, c: &[i64; 27], k: u32, out: &mut [i64; 27])
+pub fn half_at(d: u32, first: bool, c: &[i64; 27], k: u32, out: &mut [i64; 27])
     requires { ⌜ Cuttable largest (now c) × (d < 3) × (length (now out) ≡ 27) ⌝ }
     requires { ⌜ (first ≡ false → now out ≡ halve d (side d k) (now c)) ⌝ }
     ensures { λ _. ⌜ now (out .exit) ≡ halve d (side d k) (now (c .entry)) ⌝ }
@@ -122,81 +115,4 @@ pub fn record(g: &[i64; 27], depth: u32) -> [i64; RECORD_WORDS]
         pass_at(g, m, &mut r);
     }
     narrow_pass::settled(m, &r)
-}
-
-// The least coefficient and the least corner of the cells seen so far.
-pub struct Extremes {
-    pub low: i64,
-    pub high: i64,
-}
-
-fn lesser(x: i64, y: i64) -> i64
-    ensures { λ r. ⌜ r ≡ lesserOf x y ⌝ }
-{
-    if x <= y {
-        return x;
-    }
-    y
-}
-
-// The least of v and the first n coefficients.
-fn least(g: &[i64; 27], n: usize, v: i64) -> i64
-    requires { ⌜ (length (now g) ≡ 27) × (n ≤ 27) ⌝ }
-    ensures { λ r. ⌜ r ≡ leastFrom v (take n (now (g .entry))) ⌝ }
-{
-    let mut r = v;
-    for k in 0..n {
-        let x = g[k];
-        r = lesser(r, x);
-    }
-    r
-}
-
-// One cell more.
-fn with_cell(g: &[i64; 27], r: Extremes) -> Extremes
-    requires { ⌜ length (now g) ≡ 27 ⌝ }
-    ensures { λ s. ⌜ extremesOf s ≡ withControl (now (g .entry)) (extremesOf r) ⌝ }
-{
-    let low = r.low;
-    let high = r.high;
-    Extremes {
-        low: least(g, 27, low),
-        high: least(g, 8, high),
-    }
-}
-
-// The cells `left` levels below this one, after those seen before.
-fn survey(g: &[i64; 27], left: u32, r: Extremes) -> Extremes
-    requires { ⌜ Small largest (now g) left ⌝ }
-    ensures { λ e. ⌜ ((s : Cell) → s .control ≡ now (g .entry) → extremesOf e ≡ extremesBelow left s (extremesOf r)) ⌝ }
-{
-    if left == 0 {
-        return with_cell(g, r);
-    }
-    let mut half = [0i64; 27];
-    let mut quarter = [0i64; 27];
-    let mut child = [0i64; 27];
-    let mut e = r;
-    for k in 0..8 {
-        half_at(2, k % 4 == 0, g, k, &mut half);
-        half_at(1, k % 2 == 0, &half, k, &mut quarter);
-        narrow_subdivision::halve(0, cell_address::side(0, k), &quarter, &mut child);
-        e = survey(&child, left - 1, e);
-    }
-    e
-}
-
-// Both bounds of the eight points with these coefficients, from the greatest number, which no coefficient passes.
-pub fn bounds(g: &[i64; 27], depth: u32) -> Extremes
-    requires { ⌜ Small largest (now g) depth ⌝ }
-    ensures { λ r. ⌜ ((xs : List ℤ) → now (g .entry) ≡ coefficients xs → extremesOf r ≡ boundsAt xs depth) ⌝ }
-{
-    survey(
-        g,
-        depth,
-        Extremes {
-            low: GREATEST,
-            high: GREATEST,
-        },
-    )
 }

@@ -7,8 +7,8 @@ use Rattle.foundation.specs.Lists.{tabulate}
 use Rattle.foundation.specs.Polynomial.{integers}
 use Rattle.definitions.specs.Jacobian.{nodesOf}
 use Rattle.definitions.specs.Coefficients.{volumes, row, dot, coefficients}
-use Rattle.narrow_coefficients.specs.Range.{InRange, volumeLimit}
-use Rattle.narrow_coefficients.proofs.Sizes.{volumes-small}
+use Rattle.narrow_volumes.specs.Range.{InRange, volumeLimit}
+use Rattle.narrow_volumes.specs.Sizes.{volumes-small}
 use Rattle.narrow_coefficients.proofs.coefficients.Statement.{statement}
 use Rattle.narrow_coefficients.proofs.coefficients.Tie as tie
 

@@ -4,7 +4,7 @@ use mathlib.Core.Path.{_≡_, subst}
 use Prim.Native.Nat.{ℕ, _-_, _≤_}
 use native.Mathlib.Omega.{arith}
 use Rattle.narrow_coefficients.specs.Rows.{FirstRows, one-row-more}
-use Rattle.narrow_coefficients.proofs.Results.{read-back}
+use Rattle.narrow_volumes.specs.Results.{read-back}
 use Rattle.narrow_coefficients.proofs.put_rows.Statement.{statement}
 use Rattle.narrow_coefficients.proofs.put_rows.Tie as tie
 

@@ -1,0 +1,36 @@
+-- The difference of two coordinates in range.
+use borrow.Author.Needs.{needs}
+use Prim.Native.Nat.{_+_, _-_, _*_}
+use mir.Syntax.{w64}
+use mir.Val.{ofZ}
+use Rattle.foundation.specs.Held.{Rep, sub, sub-fits}
+use Rattle.definitions.specs.Jacobian.{nodesOf}
+use Rattle.narrow_volumes.specs.Range.{narrowRange}
+use Rattle.narrow_volumes.specs.Results.{answered}
+use Rattle.narrow_volumes.proofs.edge.Statement.{statement}
+use Rattle.narrow_volumes.proofs.edge.Tie as tie
+
+module _ (c : tie.After-coordinate2) where
+  abbrev s : tie.Start
+  s = c .before .before
+
+  end : Rep (ofZ w64 (c .before .coordinate .result)) (nodesOf (s .args .p .now) (s .args .b - 1) (s .args .e)) narrowRange
+  end = answered narrowRange (c .before .coordinate .ensures) (s .pre .0 .small (3 * (s .args .b - 1) + s .args .e)) tt
+
+  start : Rep (ofZ w64 (c .coordinate2 .result)) (nodesOf (s .args .p .now) (s .args .a - 1) (s .args .e)) narrowRange
+  start = answered narrowRange (c .coordinate2 .ensures) (s .pre .0 .small (3 * (s .args .a - 1) + s .args .e)) tt
+
+coordinate-requires : tie.Need-coordinate-requires
+coordinate-requires c κs = search needs
+
+coordinate-requires-2 : tie.Need-coordinate-requires-2
+coordinate-requires-2 c κs = search needs
+
+sub-result : tie.Need-sub-result
+sub-result c = sub-fits (end c) (start c) tt
+
+returns : tie.Need-returns
+returns c = sub (end c) (start c) tt .value
+
+pub edge-spec : {M : Type 1} → statement M
+edge-spec = tie.close (tie.spec coordinate-requires coordinate-requires-2 sub-result returns)
