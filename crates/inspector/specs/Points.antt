@@ -13,7 +13,7 @@ use Rattle.definitions.specs.Subdivision.{whole}
 use Rattle.expansion_theory.specs.Expansion.{length-coefficients}
 use Rattle.expansion_theory.specs.Size.{whole-size}
 use Rattle.search_theory.specs.Meaning.{Small}
-use Rattle.narrow_subdivision.specs.Word.{largest}
+use Rattle.narrow_rows.specs.Word.{largest}
 use Rattle.narrow_volumes.specs.Range.{narrowRange, InRange}
 
 -- the largest magnitude of a coefficient of the whole

@@ -11,7 +11,7 @@ ghost use Rattle.definitions.specs.Subdivision.{Cell};
 ghost use Rattle.verdict_theory.specs.Extremes.{extremes as extremesBelow};
 ghost use Rattle.search_theory.specs.Meaning.{Small};
 ghost use Rattle.search_theory.specs.Bounds.{withControl, boundsAt};
-ghost use Rattle.narrow_subdivision.specs.Word.{largest};
+ghost use Rattle.narrow_rows.specs.Word.{largest};
 ghost use Rattle.narrow_bounds.specs.Meaning.{extremesOf};
 
 // The greatest number of a word.

@@ -8,7 +8,7 @@ ghost use Rattle.verdict_theory.specs.Search.{Pass, ended as hasEnded, openCell
 ghost use Rattle.verdict_theory.specs.Clear.{more, openedClear};
 ghost use Rattle.search_theory.specs.Meaning.{cellOf, lowest as lowestOf, Room, Held};
 ghost use Rattle.search_theory.specs.Levels.{isBlocked, outcome};
-ghost use Rattle.narrow_subdivision.specs.Word.{largest};
+ghost use Rattle.narrow_rows.specs.Word.{largest};
 ghost use Rattle.narrow_pass.specs.Meaning.{layout, passWords};
 use limits::RECORD_WORDS;
 

@@ -15,7 +15,7 @@ ghost use Rattle.verdict_theory.specs.Search.{Pass, visit as visited};
 ghost use Rattle.search_theory.specs.Meaning.{cellOf, Small, deepest, Room, Held};
 ghost use Rattle.search_theory.specs.Children.{Ready, Run};
 ghost use Rattle.search_theory.specs.Levels.{wholeOf, fresh};
-ghost use Rattle.narrow_subdivision.specs.Word.{largest};
+ghost use Rattle.narrow_rows.specs.Word.{largest};
 ghost use Rattle.narrow_pass.specs.Meaning.{passWords};
 use limits::RECORD_WORDS;
 use narrow_pass::PASS_WORDS;

@@ -2,52 +2,12 @@
 // An inner crate, for the inspector's other crates. It offers `halve`, which writes the coefficients of the half, four times
 // larger, into lent space.
 ghost use mathlib.Core.Path.{_≡_};
-ghost use mathlib.Core.List.{[], _∷_};
 ghost use Prim.Native.Nat.{_+_, _<_};
 ghost use lib.ListN.{length};
-ghost use Rattle.foundation.specs.Polynomial.{integers};
-ghost use Rattle.foundation.specs.Words.{args, Within};
-ghost use Rattle.definitions.specs.Subdivision.{cutRow, halve};
+ghost use Rattle.definitions.specs.Subdivision.{halve};
 ghost use Rattle.expansion_theory.specs.Control.{Cuttable};
-ghost use Rattle.narrow_subdivision.specs.Word.{largest, cutLargest};
-ghost use Rattle.expansion_theory.specs.Rows.{putRow, Row, Holds};
-
-// The half on side h of the row p, q, r, four times larger: its entry i.
-fn blend(p: i64, q: i64, r: i64, h: u32, i: usize) -> i64
-    requires { ⌜ Within cutLargest (p ∷ q ∷ r ∷ []) ⌝ }
-    ensures { λ v. ⌜ v ≡ cutRow integers h (args (p ∷ q ∷ r ∷ [])) i ⌝ }
-{
-    if h == 0 {
-        if i == 0 {
-            return 4 * p;
-        }
-        if i == 1 {
-            return 2 * p + 2 * q;
-        }
-        return p + 2 * q + r;
-    }
-    if i == 0 {
-        return p + 2 * q + r;
-    }
-    if i == 1 {
-        return 2 * q + 2 * r;
-    }
-    4 * r
-}
-
-// The half on side h of the row p, q, r, into out at x, y, z.
-fn put_row(p: i64, q: i64, r: i64, h: u32, x: usize, y: usize, z: usize, out: &mut [i64])
-    requires { ⌜ Within cutLargest (p ∷ q ∷ r ∷ []) ⌝ }
-    requires { ⌜ (x < length (now out)) × (y < length (now out)) × (z < length (now out)) ⌝ }
-    ensures { λ _. ⌜ now (out .exit) ≡ putRow h (p ∷ q ∷ r ∷ []) x y z (now (out .entry)) ⌝ }
-{
-    let start = blend(p, q, r, h, 0);
-    let middle = blend(p, q, r, h, 1);
-    let end = blend(p, q, r, h, 2);
-    out[x] = start;
-    out[y] = middle;
-    out[z] = end;
-}
+ghost use Rattle.narrow_rows.specs.Word.{largest, cutLargest};
+ghost use Rattle.expansion_theory.specs.Rows.{Row, Holds};
 
 // Row j of direction d, the coefficients x, y, z of c: its half on side h, into out. Only the contract reads d and j.
 fn half_row(
@@ -67,7 +27,7 @@ fn half_row(
     let p = c[x];
     let q = c[y];
     let r = c[z];
-    put_row(p, q, r, h, x, y, z, out);
+    narrow_rows::put_row(p, q, r, h, x, y, z, out);
 }
 
 // The half of c on side h in direction ξ, row by row. The numbers of each row are written out, here and below, so that the

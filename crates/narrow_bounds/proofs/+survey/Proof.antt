@@ -16,7 +16,7 @@ use Rattle.search_theory.specs.Children.{Ready, ready-first, run-none, child-ma
 use Rattle.search_theory.specs.Bounds.{with-last, extremesOver, extremes-next, extremes-last, child-of}
 use Rattle.narrow_bounds.specs.Meaning.{extremesOf}
 use Rattle.search_theory.specs.Meaning.{Small}
-use Rattle.narrow_subdivision.specs.Word.{largest}
+use Rattle.narrow_rows.specs.Word.{largest}
 use borrow.Fn.Kinds.{In}
 use borrow.Fn.PlainCycle.{Measures, is, falls, and}
 use Rattle.narrow_bounds.proofs.survey.Reads as survey

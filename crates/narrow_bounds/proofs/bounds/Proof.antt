@@ -3,7 +3,7 @@ use mathlib.Core.Path.{refl, _∙_}
 use denote.Ref.{now}
 use Rattle.search_theory.specs.Levels.{wholeOf}
 use Rattle.search_theory.specs.Bounds.{bounds-are}
-use Rattle.narrow_subdivision.specs.Word.{largest}
+use Rattle.narrow_rows.specs.Word.{largest}
 use Rattle.narrow_bounds.proofs.bounds.Statement.{statement}
 use Rattle.narrow_bounds.proofs.bounds.Tie as tie
 

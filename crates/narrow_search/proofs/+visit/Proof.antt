@@ -14,7 +14,7 @@ use Rattle.search_theory.specs.Meaning.{cellOf, Room}
 use Rattle.narrow_pass.specs.Meaning.{passWords}
 use Rattle.search_theory.specs.Children.{Ready, Run, ready-first, after-some, child-made, cut-quarter, cut-small, grid-doubled, child-room, child-cell}
 use Rattle.search_theory.specs.Visit.{visit-ended, visit-none, visit-last, over, over-next, over-clear, over-ended, visit-over, one-held, skip-held, next-held}
-use Rattle.narrow_subdivision.specs.Word.{largest}
+use Rattle.narrow_rows.specs.Word.{largest}
 use borrow.Fn.Kinds.{In}
 use borrow.Fn.PlainCycle.{Measures, is, falls, and}
 use Rattle.narrow_search.proofs.visit.Reads as visit

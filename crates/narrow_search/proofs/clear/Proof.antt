@@ -8,7 +8,7 @@ use Rattle.definitions.specs.Jacobian.{side}
 use Rattle.definitions.specs.Subdivision.{halve}
 use Rattle.expansion_theory.specs.Control.{Cuttable}
 use Rattle.search_theory.specs.Children.{half-length, quarter-length, run-four, run-two, run-none, lowest-clear, cut-whole, cut-half}
-use Rattle.narrow_subdivision.specs.Word.{largest}
+use Rattle.narrow_rows.specs.Word.{largest}
 use Rattle.narrow_search.proofs.clear.Statement.{statement}
 use Rattle.narrow_search.proofs.clear.Tie as tie
 

@@ -1,7 +1,7 @@
 -- `narrow_search::pass_at` meets its contract: what was found before is forgotten, and the whole element is searched. Assumes nothing.
 use denote.Ref.{now}
 use borrow.Author.Needs.{needs}
-use Rattle.narrow_subdivision.specs.Word.{largest}
+use Rattle.narrow_rows.specs.Word.{largest}
 use Rattle.search_theory.specs.Levels.{fresh, whole-room, whole-held}
 use Rattle.narrow_pass.specs.Meaning.{passWords}
 use Rattle.narrow_search.proofs.pass_at.Statement.{statement}

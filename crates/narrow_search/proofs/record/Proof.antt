@@ -9,7 +9,7 @@ use borrow.Author.Needs.{needs}
 use borrow.Author.Tests.{ltb-true, ltb-false}
 use Rattle.search_theory.specs.Children.{small-less}
 use Rattle.search_theory.specs.Levels.{isBlocked, fresh, settled, Made, made-first, made-next, made-room}
-use Rattle.narrow_subdivision.specs.Word.{largest}
+use Rattle.narrow_rows.specs.Word.{largest}
 use Rattle.narrow_pass.specs.Meaning.{passWords}
 use Rattle.narrow_search.proofs.record.Statement.{statement}
 use Rattle.narrow_search.proofs.record.Tie as tie

@@ -5,11 +5,11 @@ use Prim.Native.Nat.{ℕ, _-_, _^_, _<_, _≤_}
 use native.Mathlib.Omega.{arith}
 use lib.ListN.{getD, length}
 use lib.IntN.{ℤ, pos, natAbs}
-use Rattle.narrow_subdivision.specs.Word.{cutLargest}
+use Rattle.narrow_rows.specs.Word.{cutLargest}
 use Rattle.foundation.specs.Words.{Within, within}
 use Rattle.expansion_theory.specs.Rows.{lineAt, putRow}
 use Rattle.expansion_theory.specs.RowLaws.{row-small, row-held}
-use Rattle.narrow_subdivision.proofs.Read.{back, row-back, read-within}
+use Rattle.narrow_rows.specs.Read.{back, row-back, read-within}
 use borrow.Author.Needs.{needs}
 use Rattle.narrow_subdivision.proofs.half_row.Statement.{statement}
 use Rattle.narrow_subdivision.proofs.half_row.Tie as tie

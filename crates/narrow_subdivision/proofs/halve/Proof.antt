@@ -3,7 +3,7 @@ use Prim.Native.Nat.{ℕ}
 use native.Mathlib.Omega.{arith}
 use Rattle.expansion_theory.specs.Rows.{Holds}
 use Rattle.expansion_theory.specs.RowLaws.{cut-within, none-held, all-held}
-use Rattle.narrow_subdivision.specs.Word.{largest, cutLargest}
+use Rattle.narrow_rows.specs.Word.{largest, cutLargest}
 use Rattle.narrow_subdivision.proofs.halve.Statement.{statement}
 use Rattle.narrow_subdivision.proofs.halve.Tie as tie
 

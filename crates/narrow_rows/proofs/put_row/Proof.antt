@@ -9,10 +9,10 @@ use Rattle.foundation.specs.Polynomial.{integers}
 use Rattle.foundation.specs.Words.{args}
 use Rattle.definitions.specs.Subdivision.{cutRow}
 use Rattle.expansion_theory.specs.Rows.{putRow}
-use Rattle.narrow_subdivision.proofs.Read.{back, row-back}
+use Rattle.narrow_rows.specs.Read.{back, row-back}
 use borrow.Author.Needs.{needs}
-use Rattle.narrow_subdivision.proofs.put_row.Statement.{statement}
-use Rattle.narrow_subdivision.proofs.put_row.Tie as tie
+use Rattle.narrow_rows.proofs.put_row.Statement.{statement}
+use Rattle.narrow_rows.proofs.put_row.Tie as tie
 
 blend-requires : tie.Need-blend-requires
 blend-requires c κs = search needs

@@ -7,12 +7,12 @@ use lib.Dec.{T}
 use lib.IntN.{ℤ, pos}
 use mir.Syntax.{w64}
 use mir.Val.{SFits}
-use Rattle.narrow_subdivision.specs.Word.{cutLargest}
+use Rattle.narrow_rows.specs.Word.{cutLargest}
 use Rattle.foundation.specs.Polynomial.{integers, eval}
 use Rattle.foundation.specs.Words.{Op, arg, lit, plus, times, formula, held, result, fits, held-is, result-fits, args, within}
 use Rattle.definitions.specs.Subdivision.{cutRow}
-use Rattle.narrow_subdivision.proofs.blend.Statement.{statement}
-use Rattle.narrow_subdivision.proofs.blend.Tie as tie
+use Rattle.narrow_rows.proofs.blend.Statement.{statement}
+use Rattle.narrow_rows.proofs.blend.Tie as tie
 
 abbrev twice : ℕ → Op
 twice i = times (lit (pos 2)) (arg i)
