@@ -1,4 +1,4 @@
--- Marks by number, what is left from a place on, and a name from one of its bytes on. Assumes nothing.
+-- What is left from a place on, and a name from one of its bytes on. Assumes nothing.
 use mathlib.Core.Path.{_≡_, refl, sym, _∙_, ap, ap₂}
 use mathlib.Core.Bool.{Bool, true, false, _&&_}
 use mathlib.Core.List.{List}
@@ -11,27 +11,7 @@ use lib.ListN.{getD, length, take, drop, length-drop}
 use lib.Seq.{drop-drop, drop-length, getD-drop}
 use Rattle.foundation.specs.Lists.{drop-next}
 use Rattle.lot_format.specs.Numbers.{number}
-use Rattle.lot_format.specs.Format.{Mark, LB, ND, HX, GR, EN, letters, isMark, markOf, nameByte, nameBytes}
-
--- a number whose low and high byte are the letters of no mark
-letters-number : (m : Mark) → number (letters m) ≡ getD (letters m) 0 0 + 256 * getD (letters m) 1 0
-letters-number LB = refl
-letters-number ND = refl
-letters-number HX = refl
-letters-number GR = refl
-letters-number EN = refl
-
-not-mark : (x : ℕ) (m : Mark) → (x ≡ number (letters m) → ⊥) → isMark m (x % 256) (x / 256) ≡ false
-not-mark x m h = go (eqb (x % 256) (getD (letters m) 0 0)) refl (eqb (x / 256) (getD (letters m) 1 0)) refl
-  where
-    go : (s : Bool) → eqb (x % 256) (getD (letters m) 0 0) ≡ s → (t : Bool) → eqb (x / 256) (getD (letters m) 1 0) ≡ t → (s && t) ≡ false
-    go false p t q = refl
-    go true p false q = refl
-    go true p true q = absurd (h (omega (arith, letters-number m, eqb-true (x % 256) _ p, eqb-true (x / 256) _ q)))
-
-pub mark-none : (x : ℕ) → (x ≡ 17486 → ⊥) → (x ≡ 22600 → ⊥) → (x ≡ 16972 → ⊥) → (x ≡ 21063 → ⊥) → (x ≡ 20037 → ⊥) → markOf (x % 256) (x / 256) ≡ none
-unfolding markOf
-mark-none x nd hx lb gr en = rw (not-mark x LB lb, not-mark x ND nd, not-mark x HX hx, not-mark x GR gr, not-mark x EN en, markOf)
+use Rattle.lot_format.specs.Format.{markOf, nameByte, nameBytes}
 
 -- the mark, and what is left, from a place on
 pub mark-drop : (xs : List ℕ) (at x : ℕ) → x % 256 ≡ getD xs at 0 → x / 256 ≡ getD xs (at + 1) 0 → markOf (x % 256) (x / 256) ≡ markOf (getD (drop at xs) 0 0) (getD (drop at xs) 1 0)

@@ -3,16 +3,10 @@ use mathlib.Core.List.{List}
 use mathlib.Core.Option.{Option, none, some}
 use Prim.Native.Nat.{ℕ, _+_, _≤_}
 use lib.ListN.{length, take, drop}
-use Rattle.lot_format.specs.Format.{Mark as FileMark, LB as markLB, ND as markND, HX as markHX, GR as markGR, EN as markEN, Stage as FileStage, atLabel, atNodes, atElements, atEnd}
 use Rattle.lot_format.specs.Reading.{Unreadable as FileUnreadable, tooLong, cutShort, unknownMark, wrongLength, outOfPlace, badByte, tooManyElements, noRoom, Entry as FileEntry, faultyEntry, wholeEntry}
 use Rattle.lot_entry_reader.specs.declared.Unreadable.{Unreadable}
 use Rattle.lot_entry_reader.specs.declared.Unreadable.the-variants.{TooLong, CutShort, UnknownMark, WrongLength, OutOfPlace, BadByte, TooManyElements, NoRoom}
-use Rattle.lot_entry_reader.specs.declared.Mark.{Mark}
-use Rattle.lot_entry_reader.specs.declared.Mark.the-variants.{LB, ND, HX, GR, EN}
-use Rattle.lot_entry_reader.specs.declared.Marked.{Marked}
-use Rattle.lot_entry_reader.specs.declared.Marked.the-variants.{Known, Unknown}
-use Rattle.lot_entry_reader.specs.declared.Stage.{Stage}
-use Rattle.lot_entry_reader.specs.declared.Stage.the-variants.{AtLabel, AtNodes, AtElements, AtEnd}
+use Rattle.lot_marks.specs.Meaning.{markHeld}
 use Rattle.lot_entry_reader.specs.declared.Body.{Body}
 use Rattle.lot_entry_reader.specs.declared.Body.the-variants.{Right, Wrong}
 use Rattle.lot_entry_reader.specs.declared.Entry.{Entry}
@@ -27,23 +21,6 @@ unreadableHeld OutOfPlace = outOfPlace
 unreadableHeld BadByte = badByte
 unreadableHeld TooManyElements = tooManyElements
 unreadableHeld NoRoom = noRoom
-
-abbrev pub markHeld : Mark → FileMark
-markHeld LB = markLB
-markHeld ND = markND
-markHeld HX = markHX
-markHeld GR = markGR
-markHeld EN = markEN
-
-abbrev pub markedHeld : Marked → Option FileMark
-markedHeld (Known m) = some (markHeld m)
-markedHeld Unknown = none
-
-abbrev pub stageHeld : Stage → FileStage
-stageHeld AtLabel = atLabel
-stageHeld AtNodes = atNodes
-stageHeld AtElements = atElements
-stageHeld AtEnd = atEnd
 
 abbrev pub faultHeld : Body → Option FileUnreadable
 faultHeld Right = none

@@ -6,22 +6,14 @@ ghost use mathlib.Core.Bool.{true};
 ghost use Prim.Native.Nat.{_+_, _/_, _%_, _≤_, _<_};
 ghost use lib.ListN.{length, getD, take, drop};
 ghost use Rattle.lot_format.specs.Numbers.{number};
-ghost use Rattle.lot_format.specs.Format.{lotFile, markOf, rightLength, inPlace, stageAfter, nameByte, nameBytes};
-ghost use Rattle.lot_format.specs.Reading.{nameFault, bodyFault, bodyOf, knownOf, entryOf, hasEnded};
-ghost use Rattle.lot_entry_reader.specs.Meaning.{markHeld, markedHeld, stageHeld, faultHeld, entryHeld, Within};
+ghost use Rattle.lot_format.specs.Format.{lotFile, markOf, rightLength, nameByte, nameBytes};
+ghost use Rattle.lot_format.specs.Reading.{nameFault, bodyFault, bodyOf, knownOf, entryOf};
+ghost use Rattle.lot_marks.specs.Meaning.{markHeld, markedHeld, stageHeld};
+ghost use Rattle.lot_entry_reader.specs.Meaning.{faultHeld, entryHeld, Within};
 use limits::MAX_ELEMENTS;
-use limits::MAX_NAME;
-
-// The two letters of each mark as a number, low byte first: L is 0x4c, B is 0x42.
-pub const LETTERS_LB: u32 = 0x424c;
-
-pub const LETTERS_ND: u32 = 0x444e;
-
-pub const LETTERS_HX: u32 = 0x5848;
-
-pub const LETTERS_GR: u32 = 0x5247;
-
-pub const LETTERS_EN: u32 = 0x4e45;
+use lot_marks::Mark;
+use lot_marks::Marked;
+use lot_marks::Stage;
 
 // Why a lot is refused.
 pub enum Unreadable {
@@ -35,29 +27,6 @@ pub enum Unreadable {
     NoRoom,
 }
 
-// The mark of an entry.
-pub enum Mark {
-    LB,
-    ND,
-    HX,
-    GR,
-    EN,
-}
-
-// The mark that two bytes are.
-pub enum Marked {
-    Known(Mark),
-    Unknown,
-}
-
-// Which marks are in place: none was read yet; the label or a node was; an element or a group was; the end was.
-pub enum Stage {
-    AtLabel,
-    AtNodes,
-    AtElements,
-    AtEnd,
-}
-
 // Whether a body is as it should be.
 enum Body {
     Right,
@@ -68,99 +37,6 @@ enum Body {
 pub enum Entry {
     Faulty(Unreadable),
     Whole(Mark, usize),
-}
-
-// The mark whose two letters are the low and the high byte of a number.
-fn mark_of(letters: u32) -> Marked
-    ensures { λ r. ⌜ markedHeld r ≡ markOf (letters % 256) (letters / 256) ⌝ }
-{
-    if letters == LETTERS_ND {
-        return Marked::Known(Mark::ND);
-    }
-    if letters == LETTERS_HX {
-        return Marked::Known(Mark::HX);
-    }
-    if letters == LETTERS_LB {
-        return Marked::Known(Mark::LB);
-    }
-    if letters == LETTERS_GR {
-        return Marked::Known(Mark::GR);
-    }
-    if letters == LETTERS_EN {
-        return Marked::Known(Mark::EN);
-    }
-    Marked::Unknown
-}
-
-// Whether a mark is in place at a stage.
-fn in_place(stage: Stage, mark: Mark) -> bool
-    ensures { λ r. ⌜ r ≡ inPlace (stageHeld stage) (markHeld mark) ⌝ }
-{
-    match stage {
-        Stage::AtLabel => match mark {
-            Mark::LB => true,
-            Mark::ND => false,
-            Mark::HX => false,
-            Mark::GR => false,
-            Mark::EN => false,
-        },
-        Stage::AtNodes => match mark {
-            Mark::LB => false,
-            Mark::ND => true,
-            Mark::HX => true,
-            Mark::GR => true,
-            Mark::EN => true,
-        },
-        Stage::AtElements => match mark {
-            Mark::LB => false,
-            Mark::ND => false,
-            Mark::HX => true,
-            Mark::GR => true,
-            Mark::EN => true,
-        },
-        Stage::AtEnd => false,
-    }
-}
-
-// The stage after a mark.
-pub fn stage_after(mark: Mark) -> Stage
-    ensures { λ r. ⌜ stageHeld r ≡ stageAfter (markHeld mark) ⌝ }
-{
-    match mark {
-        Mark::LB => Stage::AtNodes,
-        Mark::ND => Stage::AtNodes,
-        Mark::HX => Stage::AtElements,
-        Mark::GR => Stage::AtElements,
-        Mark::EN => Stage::AtEnd,
-    }
-}
-
-// Whether a body may have this length.
-fn right_length(mark: Mark, n: usize) -> bool
-    ensures { λ r. ⌜ r ≡ rightLength lotFile (markHeld mark) n ⌝ }
-{
-    match mark {
-        Mark::LB => n <= MAX_NAME,
-        Mark::ND => n == 12,
-        Mark::HX => n == 32,
-        Mark::GR => n <= MAX_NAME,
-        Mark::EN => n == 0,
-    }
-}
-
-// The length of an entry's body, where it gives n and that is right. For a node, an element and the end this is known from the mark, so that the next
-// entry is found without waiting for n to be read.
-pub fn body_length(mark: Mark, n: usize) -> usize
-    requires { ⌜ rightLength lotFile (markHeld mark) n ≡ true ⌝ }
-    ensures { λ r. ⌜ r ≡ n ⌝ }
-{
-    match mark {
-        Mark::LB => n,
-        Mark::ND => 12,
-        Mark::HX => 32,
-        Mark::GR => n,
-        Mark::EN => 0,
-    }
 }
 
 // Whether a byte may stand in a label or a group's name.
@@ -218,7 +94,7 @@ pub fn mark_at(file: &[u8], at: usize) -> Marked
     requires { ⌜ at + 2 ≤ length (now file) ⌝ }
     ensures { λ r. ⌜ markedHeld r ≡ markOf (getD (drop at (now (file .entry))) 0 0) (getD (drop at (now (file .entry))) 1 0) ⌝ }
 {
-    mark_of(bytes_input::short_at(file, at))
+    lot_marks::mark_of(bytes_input::short_at(file, at))
 }
 
 // The length that the entry at a place gives for its body.
@@ -253,15 +129,15 @@ fn known_at(file: &[u8], at: usize, stage: Stage, mark: Mark, elements: usize) -
     ensures { λ r. ⌜ Within (drop at (now (file .entry))) r ⌝ }
 {
     let len = length_at(file, at);
-    let right = right_length(mark, len);
-    let placed = in_place(stage, mark);
+    let right = lot_marks::right_length(mark, len);
+    let placed = lot_marks::in_place(stage, mark);
     if !placed {
         return Entry::Faulty(Unreadable::OutOfPlace);
     }
     if !right {
         return Entry::Faulty(Unreadable::WrongLength);
     }
-    let n = body_length(mark, len);
+    let n = lot_marks::body_length(mark, len);
     body_at(file, at, mark, elements, n)
 }
 
@@ -278,17 +154,5 @@ pub fn entry_at(file: &[u8], at: usize, stage: Stage, elements: usize) -> Entry
     match marked {
         Marked::Unknown => Entry::Faulty(Unreadable::UnknownMark),
         Marked::Known(mark) => known_at(file, at, stage, mark, elements),
-    }
-}
-
-// Whether the end was read.
-pub fn has_ended(stage: Stage) -> bool
-    ensures { λ r. ⌜ r ≡ hasEnded (stageHeld stage) ⌝ }
-{
-    match stage {
-        Stage::AtLabel => false,
-        Stage::AtNodes => false,
-        Stage::AtElements => false,
-        Stage::AtEnd => true,
     }
 }

@@ -70,7 +70,7 @@ pub fn put_label(out: &mut [u8], at: usize, label: &[u8]) -> usize
     requires { ⌜ (length (now label) < 65536) × (at + length (entryBytes LB (now label)) ≤ length (now out)) ⌝ }
     ensures { λ r. ⌜ Laid at (entryBytes LB (now (label .entry))) (now (out .entry)) (now (out .exit)) r ⌝ }
 {
-    put_name(out, at, lot_entry_reader::LETTERS_LB, label)
+    put_name(out, at, lot_marks::LETTERS_LB, label)
 }
 
 // The entry of a node.
@@ -78,7 +78,7 @@ fn put_node(out: &mut [u8], at: usize, node: &[i32]) -> usize
     requires { ⌜ (length (now node) ≡ 3) × (at + length (entryBytes ND (signedBytes (now node))) ≤ length (now out)) ⌝ }
     ensures { λ r. ⌜ Laid at (entryBytes ND (signedBytes (now (node .entry)))) (now (out .entry)) (now (out .exit)) r ⌝ }
 {
-    let next = put_head(out, at, lot_entry_reader::LETTERS_ND, 12);
+    let next = put_head(out, at, lot_marks::LETTERS_ND, 12);
     put_signeds(out, next, node)
 }
 
@@ -87,7 +87,7 @@ fn put_element(out: &mut [u8], at: usize, element: &[u32]) -> usize
     requires { ⌜ (length (now element) ≡ 8) × (at + length (entryBytes HX (unsignedBytes (now element))) ≤ length (now out)) ⌝ }
     ensures { λ r. ⌜ Laid at (entryBytes HX (unsignedBytes (now (element .entry)))) (now (out .entry)) (now (out .exit)) r ⌝ }
 {
-    let next = put_head(out, at, lot_entry_reader::LETTERS_HX, 32);
+    let next = put_head(out, at, lot_marks::LETTERS_HX, 32);
     put_unsigneds(out, next, element)
 }
 
@@ -127,7 +127,7 @@ fn put_group(out: &mut [u8], at: usize, elements: &[u32], name: &[u8]) -> usize
     ensures { λ r. ⌜ Laid at (elementEntries (now (elements .entry)) ++ entryBytes GR (now (name .entry))) (now (out .entry)) (now (out .exit)) r ⌝ }
 {
     let next = put_elements(out, at, elements);
-    put_name(out, next, lot_entry_reader::LETTERS_GR, name)
+    put_name(out, next, lot_marks::LETTERS_GR, name)
 }
 
 // The entries of elements with the groups among them: before each group those that it counts, then its name.
@@ -163,5 +163,5 @@ pub fn put_end(out: &mut [u8], at: usize) -> usize
     requires { ⌜ at + length (entryBytes EN []) ≤ length (now out) ⌝ }
     ensures { λ r. ⌜ Laid at (entryBytes EN []) (now (out .entry)) (now (out .exit)) r ⌝ }
 {
-    put_head(out, at, lot_entry_reader::LETTERS_EN, 0)
+    put_head(out, at, lot_marks::LETTERS_EN, 0)
 }

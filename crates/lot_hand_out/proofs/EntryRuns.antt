@@ -11,8 +11,8 @@ use Rattle.foundation.specs.Lists.{append-nil}
 use Rattle.foundation.specs.Laid.{put, put-nil}
 use Rattle.lot_format.specs.Numbers.{number, signed, unsigneds, signeds}
 use Rattle.lot_format.specs.Format.{Mark as FileMark, LB as markLB, ND as markND, HX as markHX, GR as markGR, EN as markEN}
-use Rattle.lot_entry_reader.specs.declared.Mark.{Mark}
-use Rattle.lot_entry_reader.specs.Meaning.{markHeld}
+use Rattle.lot_marks.specs.declared.Mark.{Mark}
+use Rattle.lot_marks.specs.Meaning.{markHeld}
 use Rattle.lot_scan.specs.declared.Counts.{Counts}
 use Rattle.lot_hand_out.specs.Meaning.{newRuns, Fitting}
 

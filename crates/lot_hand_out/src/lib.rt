@@ -9,10 +9,10 @@ ghost use Rattle.foundation.specs.Laid.{put, laidOver};
 ghost use Rattle.lot_format.specs.Numbers.{unsigneds, signeds};
 ghost use Rattle.lot_format.specs.Format.{lotFile};
 ghost use Rattle.lot_format.specs.Reading.{readLot, handedOut};
-ghost use Rattle.lot_entry_reader.specs.Meaning.{markHeld};
+ghost use Rattle.lot_marks.specs.Meaning.{markHeld};
 ghost use Rattle.lot_hand_out.specs.Meaning.{newRuns, Fitting, Handable};
-use lot_entry_reader::Mark;
-use lot_entry_reader::Marked;
+use lot_marks::Mark;
+use lot_marks::Marked;
 use lot_scan::Counts;
 
 // Writes the three coordinates of a node, whose bytes start at a place of the file, to the lent words n, n + 1 and n + 2.
@@ -118,7 +118,7 @@ pub fn hand_out(
         let Marked::Known(mark) = marked else {
             return;
         };
-        let len = lot_entry_reader::body_length(mark, lot_entry_reader::length_at(file, at));
+        let len = lot_marks::body_length(mark, lot_entry_reader::length_at(file, at));
         put_entry(
             file,
             at + 4,

@@ -4,12 +4,12 @@
 ghost use mathlib.Core.Path.{_≡_};
 ghost use Rattle.lot_format.specs.Format.{lotFile};
 ghost use Rattle.lot_format.specs.Reading.{readLot, reading};
-ghost use Rattle.lot_entry_reader.specs.Meaning.{markHeld};
+ghost use Rattle.lot_marks.specs.Meaning.{markHeld};
 ghost use Rattle.lot_scan.specs.Meaning.{noCounts, countedOf, Small, scanHeld, scanOf, Few, roomHeld, hasRoom};
 use lot_entry_reader::Entry;
-use lot_entry_reader::Mark;
-use lot_entry_reader::Stage;
 use lot_entry_reader::Unreadable;
+use lot_marks::Mark;
+use lot_marks::Stage;
 
 // The bytes of the label, the numbers of nodes, elements and groups, and the bytes of the groups' names.
 pub struct Counts {
@@ -87,7 +87,7 @@ fn scan_file(file: &[u8]) -> Scan
     let mut at = 0;
     let mut stage = Stage::AtLabel;
     let mut counts = nothing();
-    while !lot_entry_reader::has_ended(stage) {
+    while !lot_marks::has_ended(stage) {
         let elements = counts.elements;
         let entry = lot_entry_reader::entry_at(file, at, stage, elements);
         match entry {
@@ -97,7 +97,7 @@ fn scan_file(file: &[u8]) -> Scan
             Entry::Whole(mark, len) => {
                 counts = counted(mark, len, counts);
                 at = at + 4 + len;
-                stage = lot_entry_reader::stage_after(mark);
+                stage = lot_marks::stage_after(mark);
             }
         }
     }

@@ -7,7 +7,8 @@ use lib.ListN.{length, drop, length-drop}
 use Rattle.lot_format.specs.Format.{lotFile}
 use Rattle.lot_format.specs.Reading.{bodyFault}
 use Rattle.lot_format.specs.Steps.{body-cut, body-wrong, body-right}
-use Rattle.lot_entry_reader.specs.Meaning.{markHeld, faultHeld}
+use Rattle.lot_marks.specs.Meaning.{markHeld}
+use Rattle.lot_entry_reader.specs.Meaning.{faultHeld}
 use Rattle.lot_entry_reader.proofs.Laws.{length-rest, part-is-body}
 use Rattle.lot_entry_reader.proofs.body_at.Statement.{statement}
 use Rattle.lot_entry_reader.proofs.body_at.Tie as tie

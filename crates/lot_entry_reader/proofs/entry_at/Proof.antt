@@ -6,7 +6,7 @@ use native.Mathlib.Omega.{arith}
 use lib.ListN.{length, drop, length-drop}
 use Rattle.lot_format.specs.Format.{lotFile}
 use Rattle.lot_format.specs.Steps.{entry-cut, entry-unknown, entry-known}
-use Rattle.lot_entry_reader.specs.Meaning.{markedHeld}
+use Rattle.lot_marks.specs.Meaning.{markedHeld}
 use borrow.Author.Needs.{needs}
 use Rattle.lot_entry_reader.proofs.entry_at.Statement.{statement}
 use Rattle.lot_entry_reader.proofs.entry_at.Tie as tie

@@ -6,7 +6,7 @@ use borrow.Author.Needs.{needs}
 use borrow.Author.Tests.{not-true, not-false}
 use Rattle.lot_format.specs.Format.{lotFile, rightLength}
 use Rattle.lot_format.specs.Steps.{known-out, known-length, known-body}
-use Rattle.lot_entry_reader.specs.Meaning.{markHeld}
+use Rattle.lot_marks.specs.Meaning.{markHeld}
 use Rattle.lot_entry_reader.proofs.known_at.Statement.{statement}
 use Rattle.lot_entry_reader.proofs.known_at.Tie as tie
 

@@ -4,7 +4,7 @@ use Prim.Native.Nat.{_-_}
 use native.Mathlib.Omega.{arith}
 use borrow.Author.Needs.{needs}
 use lib.ListN.{length}
-use Rattle.lot_entry_reader.specs.Meaning.{markHeld, markedHeld}
+use Rattle.lot_marks.specs.Meaning.{markHeld, markedHeld}
 use Rattle.lot_hand_out.proofs.Handed.{Handed, short-file, not-unknown, here, handed-start, handed-next, four-left, same-nodes, same-elements, same-names, same-lengths, same-offsets, handed-all, within-file, small-here, handed-fits, handed-then}
 use Rattle.lot_hand_out.proofs.hand_out.Statement.{statement}
 use Rattle.lot_hand_out.proofs.hand_out.Tie as tie

@@ -7,7 +7,8 @@ use borrow.Author.Tests.{not-true, not-false}
 use lib.ListN.{length, drop, length-drop}
 use Rattle.lot_format.specs.Format.{lotFile}
 use Rattle.lot_format.specs.Steps.{read-long}
-use Rattle.lot_entry_reader.specs.Meaning.{stageHeld, entryHeld, Within}
+use Rattle.lot_marks.specs.Meaning.{stageHeld}
+use Rattle.lot_entry_reader.specs.Meaning.{entryHeld, Within}
 use Rattle.lot_scan.specs.Meaning.{scanOf}
 use Rattle.lot_scan.specs.Seen.{Seen, seen-start, seen-faulty, seen-whole, seen-more, seen-end, seen-small}
 use Rattle.lot_scan.proofs.scan_file.Statement.{statement}

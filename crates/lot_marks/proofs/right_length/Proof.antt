@@ -1,7 +1,7 @@
 -- `right_length` meets its contract: by the cases of the mark. Assumes nothing.
 use borrow.Author.Needs.{needs}
-use Rattle.lot_entry_reader.proofs.right_length.Statement.{statement}
-use Rattle.lot_entry_reader.proofs.right_length.Tie as tie
+use Rattle.lot_marks.proofs.right_length.Statement.{statement}
+use Rattle.lot_marks.proofs.right_length.Tie as tie
 
 enum-told : tie.Need-enum-told
 enum-told c = search needs

@@ -4,10 +4,10 @@ use mathlib.Core.Bool.{true}
 use borrow.Author.Needs.{needs}
 use borrow.Author.Tests.{eqb-true}
 use Rattle.lot_format.specs.Format.{lotFile, rightLength}
-use Rattle.lot_entry_reader.specs.declared.Mark.{Mark}
-use Rattle.lot_entry_reader.specs.Meaning.{markHeld}
-use Rattle.lot_entry_reader.proofs.body_length.Statement.{statement}
-use Rattle.lot_entry_reader.proofs.body_length.Tie as tie
+use Rattle.lot_marks.specs.declared.Mark.{Mark}
+use Rattle.lot_marks.specs.Meaning.{markHeld}
+use Rattle.lot_marks.proofs.body_length.Statement.{statement}
+use Rattle.lot_marks.proofs.body_length.Tie as tie
 
 enum-told : tie.Need-enum-told
 enum-told c = search needs

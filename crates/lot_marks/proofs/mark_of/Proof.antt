@@ -1,9 +1,9 @@
 -- `mark_of` meets its contract: a number that was tested for is known, and any other is none of the five. Assumes nothing.
 use mathlib.Core.Path.{sym}
 use Rattle.lot_format.specs.Format.{markOf}
-use Rattle.lot_entry_reader.proofs.Laws.{mark-none}
-use Rattle.lot_entry_reader.proofs.mark_of.Statement.{statement}
-use Rattle.lot_entry_reader.proofs.mark_of.Tie as tie
+use Rattle.lot_marks.proofs.Laws.{mark-none}
+use Rattle.lot_marks.proofs.mark_of.Statement.{statement}
+use Rattle.lot_marks.proofs.mark_of.Tie as tie
 
 returns : tie.Need-returns
 unfolding markOf
