@@ -1,4 +1,4 @@
--- What the numbers of an element's name tell at the border to C. Those of the other answers: `brundhal_answers`.
+-- What the numbers of an element's name tell at the border to C. Those of the other answers: `brundhal_mesh_answers` and `brundhal_lot_answers`.
 use mathlib.Core.Bool.{true, false}
 use mathlib.Core.List.{List, [], _∷_}
 use Prim.Native.Nat.{ℕ}
