@@ -16,24 +16,14 @@ ghost use Rattle.lot_format.specs.Writing.{writing, fileOf};
 ghost use Rattle.slip_format.specs.Slip.{slipLimits, slipOf};
 ghost use Rattle.lot_writer.specs.Meaning.{runs};
 ghost use Rattle.brundhal_mesh_answers.specs.Meaning.{inspectionNumbers, inspectionFields, boundsNumbers, boundsFields, moveNumbers, moveFields, stampTold, addressHeld, stampFor};
-ghost use Rattle.brundhal_lot_answers.specs.Meaning.{lotNumbers, lotFields, writingNumbers, writtenFields};
-ghost use Rattle.brundhal.specs.Meaning.{nameFields, nameTold, nameNumbers};
+ghost use Rattle.brundhal_lot_answers.specs.Meaning.{lotNumbers, lotFields, writingNumbers, writtenFields, nameNumbers, nameFields, nameTold};
 use brundhal_lot_answers::BrundhalLot;
+use brundhal_lot_answers::BrundhalName;
 use brundhal_lot_answers::BrundhalWritten;
 use brundhal_mesh_answers::BrundhalAddress;
 use brundhal_mesh_answers::BrundhalBounds;
 use brundhal_mesh_answers::BrundhalInspection;
 use brundhal_mesh_answers::BrundhalMove;
-
-// The number that answers the naming of an element, 0 or 24, 23, 25, 28, and the name that it bears: 1 and the place and length of a part of
-// the names; or 0, 0 and the length of the label, whose whole it is. A refusal has 0 for each.
-#[repr(C)]
-pub struct BrundhalName {
-    pub number: u32,
-    pub grouped: u32,
-    pub start: usize,
-    pub len: usize,
-}
 
 // Inspects a mesh: `inspector::inspect`.
 #[no_mangle]
@@ -151,29 +141,8 @@ pub extern "C" fn brundhal_name(
     ensures { λ r. ⌜ nameTold r (now (label .entry)) (now (names .entry)) ≡ nameGiven (naming lotFile (now (label .entry)) (now (names .entry)) (now (lengths .entry)) (now (offsets .entry)) elements element) ⌝ }
 {
     let number = lot_naming::refusal_of(label, names, lengths, offsets, elements, element);
-    if number != 0 {
-        return BrundhalName {
-            number: number,
-            grouped: 0,
-            start: 0,
-            len: 0,
-        };
-    }
     let part = lot_groups::part_in_force(names, lengths, offsets, element);
-    if part.len == 0 {
-        return BrundhalName {
-            number: 0,
-            grouped: 0,
-            start: 0,
-            len: label.len(),
-        };
-    }
-    BrundhalName {
-        number: 0,
-        grouped: 1,
-        start: part.start,
-        len: part.len,
-    }
+    brundhal_lot_answers::name(number, part, label.len())
 }
 
 // Writes the slip of a lot file to the front of the lent bytes and returns its length: `slip_writer::write`.

@@ -3,7 +3,8 @@
 ghost use mathlib.Core.Path.{_≡_};
 ghost use Rattle.lot_format.specs.Writing.{unwritableNumber};
 ghost use Rattle.lot_writer.specs.Meaning.{unwritableHeld, writtenHeld};
-ghost use Rattle.brundhal_lot_answers.specs.Meaning.{lotFields, writtenFields, labelStart, lotTold, answerNumbers, ShortAnswer};
+ghost use Rattle.brundhal_lot_answers.specs.Meaning.{lotFields, writtenFields, nameFields, labelStart, lotTold, answerNumbers, ShortAnswer, nameSaid};
+use lot_groups::Part;
 use lot_writer::Unwritable;
 use lot_writer::Written;
 
@@ -25,6 +26,16 @@ pub struct BrundhalLot {
 pub struct BrundhalWritten {
     pub number: u32,
     pub len: u32,
+}
+
+// The number that answers the naming of an element, 0 or 24, 23, 25, 28, and the name that it bears: 1 and the place and length of a part of
+// the names; or 0, 0 and the length of the label, whose whole it is. A refusal has 0 for each.
+#[repr(C)]
+pub struct BrundhalName {
+    pub number: u32,
+    pub grouped: u32,
+    pub start: usize,
+    pub len: usize,
 }
 
 // Where the label of a lot with this number starts.
@@ -81,5 +92,33 @@ pub fn written(answer: Written) -> BrundhalWritten
             number: unwritable_number(r),
             len: 0,
         },
+    }
+}
+
+// The name of an element, by the number that answers, the part of the names that is in force there and the length of the label.
+pub fn name(number: u32, part: Part, label: usize) -> BrundhalName
+    ensures { λ r. ⌜ nameFields r ≡ nameSaid number (part .start) (part .len) label ⌝ }
+{
+    if number != 0 {
+        return BrundhalName {
+            number: number,
+            grouped: 0,
+            start: 0,
+            len: 0,
+        };
+    }
+    if part.len == 0 {
+        return BrundhalName {
+            number: 0,
+            grouped: 0,
+            start: 0,
+            len: label,
+        };
+    }
+    BrundhalName {
+        number: 0,
+        grouped: 1,
+        start: part.start,
+        len: part.len,
     }
 }
