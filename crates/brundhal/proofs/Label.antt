@@ -9,7 +9,7 @@ use Rattle.lot_format.specs.Format.{FileLimits}
 use Rattle.lot_format.specs.Reading.{unreadableNumber, Reading, readable, unreadable, readingNumber, Room, reading, handedOut, labelPlace}
 use Rattle.lot_format.specs.Numbered.{not-zero}
 use Rattle.lot_format.specs.Accepted.{reading-accepted, accepted-label}
-use Rattle.brundhal_answers.specs.Meaning.{labelStart, other-start}
+use Rattle.brundhal_lot_answers.specs.Meaning.{labelStart, other-start}
 
 pub start-is-place : (r : Reading) → labelStart (readingNumber r) ≡ labelPlace r
 start-is-place (readable lot) = refl

@@ -1,3 +1,2 @@
 pub mod Label
-pub mod Name
 pub mod Answered

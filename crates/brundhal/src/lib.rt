@@ -1,5 +1,5 @@
 // The services for callers in C and Rust: the same answers as plain numbers. include/brundhal.h declares them. The structs and what they
-// say: `brundhal_answers`.
+// say: `brundhal_mesh_answers` and `brundhal_lot_answers`.
 // Nothing has to be checked first. A slice passes as a pointer and a length in elements; a null or an overlapping pointer is the
 // caller's fault, and so is a length that is not that of the memory behind it.
 ghost use mathlib.Core.Path.{_≡_};
@@ -15,24 +15,15 @@ ghost use Rattle.lot_format.specs.Naming.{naming, nameGiven};
 ghost use Rattle.lot_format.specs.Writing.{writing, fileOf};
 ghost use Rattle.slip_format.specs.Slip.{slipLimits, slipOf};
 ghost use Rattle.lot_writer.specs.Meaning.{runs};
-ghost use Rattle.brundhal_answers.specs.Meaning.{inspectionNumbers, inspectionFields, boundsNumbers, boundsFields, moveNumbers, moveFields, stampTold, lotNumbers, lotFields, writingNumbers, writtenFields, addressHeld, stampFor};
-ghost use Rattle.brundhal.specs.Meaning.{nameFields, nameTold, nameNumbers};
-use brundhal_answers::BrundhalAddress;
-use brundhal_answers::BrundhalBounds;
-use brundhal_answers::BrundhalInspection;
-use brundhal_answers::BrundhalLot;
-use brundhal_answers::BrundhalMove;
-use brundhal_answers::BrundhalWritten;
-
-// The number that answers the naming of an element, 0 or 24, 23, 25, 28, and the name that it bears: 1 and the place and length of a part of
-// the names; or 0, 0 and the length of the label, whose whole it is. A refusal has 0 for each.
-#[repr(C)]
-pub struct BrundhalName {
-    pub number: u32,
-    pub grouped: u32,
-    pub start: usize,
-    pub len: usize,
-}
+ghost use Rattle.brundhal_mesh_answers.specs.Meaning.{inspectionNumbers, inspectionFields, boundsNumbers, boundsFields, moveNumbers, moveFields, stampTold, addressHeld, stampFor};
+ghost use Rattle.brundhal_lot_answers.specs.Meaning.{lotNumbers, lotFields, writingNumbers, writtenFields, nameNumbers, nameFields, nameTold};
+use brundhal_lot_answers::BrundhalLot;
+use brundhal_lot_answers::BrundhalName;
+use brundhal_lot_answers::BrundhalWritten;
+use brundhal_mesh_answers::BrundhalAddress;
+use brundhal_mesh_answers::BrundhalBounds;
+use brundhal_mesh_answers::BrundhalInspection;
+use brundhal_mesh_answers::BrundhalMove;
 
 // Inspects a mesh: `inspector::inspect`.
 #[no_mangle]
@@ -45,7 +36,7 @@ pub extern "C" fn brundhal_inspect(
     ensures { λ r. ⌜ inspectionFields r ≡ inspectionNumbers (inspection base (now (coordinates .entry)) (now (indices .entry)) (length (now (report .entry))) depth) ⌝ }
     ensures { λ r. ⌜ now (report .exit) ≡ reportAfter base (now (coordinates .entry)) (now (indices .entry)) (now (report .entry)) depth ⌝ }
 {
-    brundhal_answers::numbers(inspector::inspect(coordinates, indices, depth, report))
+    brundhal_mesh_answers::numbers(inspector::inspect(coordinates, indices, depth, report))
 }
 
 // Both bounds of eight points: `inspector::bounds_of`.
@@ -54,7 +45,7 @@ pub extern "C" fn brundhal_bounds(points: &[i32; 24], depth: u32) -> BrundhalBou
     ensures { λ r. ⌜ boundsFields r ≡ boundsNumbers (boundsOf base (now (points .entry)) depth) ⌝ }
 {
     let p = *points;
-    brundhal_answers::pair(inspector::bounds_of(p, depth))
+    brundhal_mesh_answers::pair(inspector::bounds_of(p, depth))
 }
 
 // The stamp of an inspection's answer, 0 sound, 1 faulty or 2 open: `inspector::stamp_of`. An answer with another number than 0 is that of a
@@ -63,7 +54,7 @@ pub extern "C" fn brundhal_bounds(points: &[i32; 24], depth: u32) -> BrundhalBou
 pub extern "C" fn brundhal_stamp(answer: BrundhalInspection) -> u32
     ensures { λ r. ⌜ r ≡ stampTold (stampFor answer) ⌝ }
 {
-    brundhal_answers::stamp_told(answer)
+    brundhal_mesh_answers::stamp_told(answer)
 }
 
 // The moves of an address: `cell_address::Address`.
@@ -71,21 +62,21 @@ pub extern "C" fn brundhal_stamp(answer: BrundhalInspection) -> u32
 pub extern "C" fn brundhal_child(q: BrundhalAddress, n: u32) -> BrundhalMove
     ensures { λ r. ⌜ moveFields r ≡ moveNumbers (childAddress (base .depth) (addressHeld q) n) ⌝ }
 {
-    brundhal_answers::moved(brundhal_answers::address(q).child(n))
+    brundhal_mesh_answers::moved(brundhal_mesh_answers::address(q).child(n))
 }
 
 #[no_mangle]
 pub extern "C" fn brundhal_corner(q: BrundhalAddress, n: u32) -> BrundhalMove
     ensures { λ r. ⌜ moveFields r ≡ moveNumbers (cornerAddress (base .depth) (addressHeld q) n) ⌝ }
 {
-    brundhal_answers::moved(brundhal_answers::address(q).corner(n))
+    brundhal_mesh_answers::moved(brundhal_mesh_answers::address(q).corner(n))
 }
 
 #[no_mangle]
 pub extern "C" fn brundhal_parent(q: BrundhalAddress) -> BrundhalMove
     ensures { λ r. ⌜ moveFields r ≡ moveNumbers (parentAddress (base .depth) (addressHeld q)) ⌝ }
 {
-    brundhal_answers::moved(brundhal_answers::address(q).parent())
+    brundhal_mesh_answers::moved(brundhal_mesh_answers::address(q).parent())
 }
 
 // Reads a lot file: `lot_reader::read`. C has no part of a slice, so the label is told by its place in the file and its length.
@@ -108,7 +99,7 @@ pub extern "C" fn brundhal_read_lot(
 {
     let mut answer = [0u32; 5];
     let label = lot_reader::read(file, nodes, elements, names, lengths, offsets, &mut answer);
-    brundhal_answers::lot(answer, label.len() as u32)
+    brundhal_lot_answers::lot(answer, label.len() as u32)
 }
 
 // Writes a lot file: `lot_writer::write`.
@@ -125,7 +116,7 @@ pub extern "C" fn brundhal_write_lot(
     ensures { λ r. ⌜ writtenFields r ≡ writingNumbers (writing lotFile (runs (now (label .entry)) (now (nodes .entry)) (now (elements .entry)) (now (names .entry)) (now (lengths .entry)) (now (offsets .entry))) (length (now (out .entry)))) ⌝ }
     ensures { λ r. ⌜ now (out .exit) ≡ laidOver (fileOf (writing lotFile (runs (now (label .entry)) (now (nodes .entry)) (now (elements .entry)) (now (names .entry)) (now (lengths .entry)) (now (offsets .entry))) (length (now (out .entry))))) (now (out .entry)) ⌝ }
 {
-    brundhal_answers::written(lot_writer::write(
+    brundhal_lot_answers::written(lot_writer::write(
         label,
         nodes,
         elements,
@@ -150,29 +141,8 @@ pub extern "C" fn brundhal_name(
     ensures { λ r. ⌜ nameTold r (now (label .entry)) (now (names .entry)) ≡ nameGiven (naming lotFile (now (label .entry)) (now (names .entry)) (now (lengths .entry)) (now (offsets .entry)) elements element) ⌝ }
 {
     let number = lot_naming::refusal_of(label, names, lengths, offsets, elements, element);
-    if number != 0 {
-        return BrundhalName {
-            number: number,
-            grouped: 0,
-            start: 0,
-            len: 0,
-        };
-    }
     let part = lot_groups::part_in_force(names, lengths, offsets, element);
-    if part.len == 0 {
-        return BrundhalName {
-            number: 0,
-            grouped: 0,
-            start: 0,
-            len: label.len(),
-        };
-    }
-    BrundhalName {
-        number: 0,
-        grouped: 1,
-        start: part.start,
-        len: part.len,
-    }
+    brundhal_lot_answers::name(number, part, label.len())
 }
 
 // Writes the slip of a lot file to the front of the lent bytes and returns its length: `slip_writer::write`.

@@ -1,6 +1,6 @@
 -- `brundhal::brundhal_inspect` meets its contract: the answer of the inspector, in numbers. Assumes nothing.
 use mathlib.Core.Path.{ap, _∙_}
-use Rattle.brundhal_answers.specs.Meaning.{inspectionNumbers}
+use Rattle.brundhal_mesh_answers.specs.Meaning.{inspectionNumbers}
 use borrow.Author.Needs.{needs}
 use Rattle.brundhal.proofs.brundhal_inspect.Statement.{statement}
 use Rattle.brundhal.proofs.brundhal_inspect.Tie as tie

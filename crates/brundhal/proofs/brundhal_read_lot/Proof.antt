@@ -8,7 +8,7 @@ use Rattle.lot_format.specs.NumberLaws.{bytes-by-place}
 use Rattle.lot_format.specs.Format.{lotFile}
 use Rattle.lot_format.specs.Reading.{readInto, handedOut, readingNumbers}
 use Rattle.lot_format.specs.Accepted.{handed-label-short}
-use Rattle.brundhal_answers.specs.Meaning.{lotTold, lotNumbers, lotFields}
+use Rattle.brundhal_lot_answers.specs.Meaning.{lotTold, lotNumbers, lotFields}
 use Rattle.brundhal.proofs.Label.{start-is-place, label-in-file}
 use borrow.Author.Needs.{needs}
 use Rattle.brundhal.proofs.brundhal_read_lot.Statement.{statement}

@@ -1,11 +1,11 @@
--- `brundhal_answers::stamp_told` meets its contract: by the number. Assumes nothing.
+-- `brundhal_mesh_answers::stamp_told` meets its contract: by the number. Assumes nothing.
 use mathlib.Core.Path.{sym, ap, _∙_}
 use mathlib.Core.Option.{some}
 use Rattle.definitions.specs.Mesh.{Stamp}
-use Rattle.brundhal_answers.specs.Meaning.{stampTold, other-number, zero-number}
+use Rattle.brundhal_mesh_answers.specs.Meaning.{stampTold, other-number, zero-number}
 use borrow.Author.Needs.{needs}
-use Rattle.brundhal_answers.proofs.stamp_told.Statement.{statement}
-use Rattle.brundhal_answers.proofs.stamp_told.Tie as tie
+use Rattle.brundhal_mesh_answers.proofs.stamp_told.Statement.{statement}
+use Rattle.brundhal_mesh_answers.proofs.stamp_told.Tie as tie
 
 returns : tie.Need-returns
 returns c = sym (ap stampTold (other-number (c .before .before .args .answer) (c .if1 .taken)))

@@ -1,7 +1,7 @@
--- `brundhal_answers::lot` meets its contract: the words in their order, and where the label starts. Assumes nothing.
+-- `brundhal_lot_answers::lot` meets its contract: the words in their order, and where the label starts. Assumes nothing.
 use borrow.Author.Needs.{needs}
-use Rattle.brundhal_answers.proofs.lot.Statement.{statement}
-use Rattle.brundhal_answers.proofs.lot.Tie as tie
+use Rattle.brundhal_lot_answers.proofs.lot.Statement.{statement}
+use Rattle.brundhal_lot_answers.proofs.lot.Tie as tie
 
 array-read-t6 : tie.Need-array-read-t6
 array-read-t6 c = search needs

@@ -1,11 +1,11 @@
--- `brundhal_answers::moved` meets its contract: by the answer's cases. Assumes nothing.
+-- `brundhal_mesh_answers::moved` meets its contract: by the answer's cases. Assumes nothing.
 use mathlib.Core.Path.{sym, ap}
 use Rattle.cell_address.specs.declared.Moved.{Moved}
 use Rattle.cell_address.specs.Meaning.{moveOf}
-use Rattle.brundhal_answers.specs.Meaning.{moveNumbers}
+use Rattle.brundhal_mesh_answers.specs.Meaning.{moveNumbers}
 use borrow.Author.Needs.{needs}
-use Rattle.brundhal_answers.proofs.moved.Statement.{statement}
-use Rattle.brundhal_answers.proofs.moved.Tie as tie
+use Rattle.brundhal_mesh_answers.proofs.moved.Statement.{statement}
+use Rattle.brundhal_mesh_answers.proofs.moved.Tie as tie
 
 enum-known-answer : tie.Need-enum-known-answer
 enum-known-answer c = search needs

@@ -1,19 +1,15 @@
-// The answers of the services as plain numbers for callers in C and Rust, and what their plain numbers stand for. An inner crate: `brundhal`
-// exports the services. Every contract is an equation with `specs/Meaning.antt`: the fields of an answer are the numbers of the definition's.
+// The answers of inspections, bounds, stamps and moves as plain numbers for callers in C and Rust, and what their plain numbers stand for. An
+// inner crate: `brundhal` exports the services. Every contract is an equation with `specs/Meaning.antt`: the fields of an answer are the numbers of the definition's.
 ghost use mathlib.Core.Path.{_≡_};
 ghost use Rattle.cell_address.specs.Meaning.{addressOf, moveOf};
 ghost use Rattle.inspector.specs.Meaning.{inspectionHeld, stampHeld, boundsHeld};
-ghost use Rattle.lot_format.specs.Writing.{unwritableNumber};
-ghost use Rattle.lot_writer.specs.Meaning.{unwritableHeld, writtenHeld};
-ghost use Rattle.brundhal_answers.specs.Meaning.{inspectionNumbers, inspectionFields, boundsNumbers, boundsFields, moveNumbers, moveFields, stampNumber, stampTold, lotFields, writtenFields, addressHeld, stampFor, labelStart, lotTold, answerNumbers, ShortAnswer};
+ghost use Rattle.brundhal_mesh_answers.specs.Meaning.{inspectionNumbers, inspectionFields, boundsNumbers, boundsFields, moveNumbers, moveFields, stampNumber, stampTold, addressHeld, stampFor};
 use cell_address::Address;
 use cell_address::Moved;
 use inspector::Bounds;
 use inspector::Counts;
 use inspector::Inspection;
 use inspector::Stamp;
-use lot_writer::Unwritable;
-use lot_writer::Written;
 
 // The number that answers an inspection, 0 or 1 to 4, and the four counts.
 #[repr(C)]
@@ -50,26 +46,6 @@ pub struct BrundhalMove {
     pub a: u32,
     pub b: u32,
     pub c: u32,
-}
-
-// The number that answers the reading of a lot file, 0 or 20 to 27, the numbers of nodes, elements, groups and bytes of the groups' names,
-// and where in the file the label stands: its first byte's place and its length.
-#[repr(C)]
-pub struct BrundhalLot {
-    pub number: u32,
-    pub nodes: u32,
-    pub elements: u32,
-    pub groups: u32,
-    pub names: u32,
-    pub start: u32,
-    pub len: u32,
-}
-
-// The number that answers the writing of a lot file, 0 with the file's length, or the number that refuses it with 0.
-#[repr(C)]
-pub struct BrundhalWritten {
-    pub number: u32,
-    pub len: u32,
 }
 
 // A refused mesh: its number, and counts 0.
@@ -183,63 +159,6 @@ pub fn moved(answer: Moved) -> BrundhalMove
             a: q.a,
             b: q.b,
             c: q.c,
-        },
-    }
-}
-
-// Where the label of a lot with this number starts.
-fn label_start(number: u32) -> u32
-    ensures { λ r. ⌜ r ≡ labelStart number ⌝ }
-{
-    if number == 0 {
-        return 4;
-    }
-    0
-}
-
-// The reading of a lot file, by its five numbers and the length of its label.
-pub fn lot(answer: [u32; 5], len: u32) -> BrundhalLot
-    ensures { λ r. ⌜ lotFields r ≡ lotTold answer len ⌝ }
-{
-    BrundhalLot {
-        number: answer[0],
-        nodes: answer[1],
-        elements: answer[2],
-        groups: answer[3],
-        names: answer[4],
-        start: label_start(answer[0]),
-        len: len,
-    }
-}
-
-fn unwritable_number(r: Unwritable) -> u32
-    ensures { λ n. ⌜ n ≡ unwritableNumber (unwritableHeld r) ⌝ }
-{
-    match r {
-        Unwritable::PartialNode => 2,
-        Unwritable::PartialElement => 3,
-        Unwritable::GroupsApart => 24,
-        Unwritable::NameTooLong => 23,
-        Unwritable::BadByte => 25,
-        Unwritable::TooManyElements => 26,
-        Unwritable::TooLong => 20,
-        Unwritable::NoRoom => 27,
-    }
-}
-
-// The writing of a lot file, whose length fits.
-pub fn written(answer: Written) -> BrundhalWritten
-    requires { ⌜ ShortAnswer answer ⌝ }
-    ensures { λ r. ⌜ writtenFields r ≡ answerNumbers (writtenHeld answer) ⌝ }
-{
-    match answer {
-        Written::Length(n) => BrundhalWritten {
-            number: 0,
-            len: n as u32,
-        },
-        Written::Refused(r) => BrundhalWritten {
-            number: unwritable_number(r),
-            len: 0,
         },
     }
 }

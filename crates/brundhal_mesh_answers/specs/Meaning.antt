@@ -1,27 +1,19 @@
--- The answers as plain numbers, numbered as documents 01 and 02 number them, and what a caller's plain numbers stand for.
+-- The answers about meshes and addresses as plain numbers, numbered as document 01 numbers them, and what a caller's plain numbers stand for.
 use mathlib.Core.Path.{_≡_, refl, _∙_, ap}
 use mathlib.Core.Bool.{Bool, true, false}
-use mathlib.Core.List.{List, [], _∷_, _++_}
+use mathlib.Core.List.{List, [], _∷_}
 use mathlib.Core.Option.{Option, none, some}
 use borrow.Author.Tests.{eq-eqb, ne-eqb}
-use Prim.Native.Nat.{ℕ, zero, suc, _≤_}
+use Prim.Native.Nat.{ℕ}
 use lib.Dec.{eqb}
-use lib.ListN.{getD, length}
+use lib.ListN.{getD}
 use lib.IntN.{ℤ, pos}
 use Rattle.definitions.specs.Address.{Address, Move}
 use Rattle.definitions.specs.Mesh.{depthTooGreat, badCoordinates, badIndices, badSpace, Counts, Inspection, meshAccepted, meshRefused, inspectionNumber, inspectionCounts, Stamp, sound, faulty, «open», stampOf, stampGiven, Bounds, boundsNumber, boundsLow, boundsHigh}
-use Rattle.brundhal_answers.specs.declared.BrundhalInspection.{BrundhalInspection}
-use Rattle.brundhal_answers.specs.declared.BrundhalBounds.{BrundhalBounds}
-use Rattle.brundhal_answers.specs.declared.BrundhalAddress.{BrundhalAddress}
-use Rattle.lot_format.specs.Reading.{Reading, handedOut, labelPlace, readingNumbers}
-use Rattle.brundhal_answers.specs.declared.BrundhalMove.{BrundhalMove}
-use Rattle.brundhal_answers.specs.declared.BrundhalLot.{BrundhalLot}
-use Rattle.brundhal_answers.specs.declared.BrundhalWritten.{BrundhalWritten}
-use Rattle.lot_format.specs.Format.{lotFile}
-use Rattle.lot_format.specs.Writing.{unwritableNumber, Writing, fileOf, writingNumber}
-use Rattle.lot_writer.specs.declared.Written.{Written}
-use Rattle.lot_writer.specs.declared.Written.the-variants.{Length, Refused}
-use Rattle.lot_writer.specs.Meaning.{Answer, lengthIs, refuses}
+use Rattle.brundhal_mesh_answers.specs.declared.BrundhalInspection.{BrundhalInspection}
+use Rattle.brundhal_mesh_answers.specs.declared.BrundhalBounds.{BrundhalBounds}
+use Rattle.brundhal_mesh_answers.specs.declared.BrundhalAddress.{BrundhalAddress}
+use Rattle.brundhal_mesh_answers.specs.declared.BrundhalMove.{BrundhalMove}
 
 -- ---- what an answer says: the numbers of the definition's answer, and beside them the fields of the struct, each once and in the same order
 -- an inspection: its number and its counts
@@ -59,20 +51,6 @@ abbrev pub stampTold : Option Stamp → ℕ
 stampTold (some s) = stampNumber s
 stampTold none = 3
 
--- a lot: its numbers, and the place and length of its label in the file
-abbrev pub lotNumbers : Reading → List ℕ
-lotNumbers r = readingNumbers r ++ (labelPlace r ∷ length (handedOut r .label) ∷ [])
-
-abbrev pub lotFields : BrundhalLot → List ℕ
-lotFields r = r .number ∷ r .nodes ∷ r .elements ∷ r .groups ∷ r .names ∷ r .start ∷ r .len ∷ []
-
--- the writing of a lot: its number and the file's length
-abbrev pub writingNumbers : Writing → List ℕ
-writingNumbers w = writingNumber w ∷ length (fileOf w) ∷ []
-
-abbrev pub writtenFields : BrundhalWritten → List ℕ
-writtenFields r = r .number ∷ r .len ∷ []
-
 -- ---- what a caller's numbers stand for
 abbrev pub addressHeld : BrundhalAddress → Address
 addressHeld q = record { level = q .level; a = q .a; b = q .b; c = q .c }
@@ -106,26 +84,3 @@ numbers-stamp (meshRefused badSpace) = refl
 
 pub same-stamp : (i : Inspection) (r : BrundhalInspection) → inspectionFields r ≡ inspectionNumbers i → stampFor r ≡ stampGiven i
 same-stamp i r e = ap stampAmong e ∙ numbers-stamp i
-
--- ---- on the way to these numbers
--- where the label starts, by the number
-abbrev pub labelStart : ℕ → ℕ
-labelStart zero = 4
-labelStart (suc n) = 0
-
-pub other-start : (n : ℕ) → (n ≡ 0 → ⊥) → labelStart n ≡ 0
-other-start zero h = absurd (h refl)
-other-start (suc n) h = refl
-
--- a lot, by the five numbers of its reading and the length of its label
-abbrev pub lotTold : List ℕ → ℕ → List ℕ
-lotTold answer len = getD answer 0 0 ∷ getD answer 1 0 ∷ getD answer 2 0 ∷ getD answer 3 0 ∷ getD answer 4 0 ∷ labelStart (getD answer 0 0) ∷ len ∷ []
-
--- the numbers of the writer's answer; a file is short, so that its length fits
-abbrev pub answerNumbers : Answer → List ℕ
-answerNumbers (lengthIs n) = 0 ∷ n ∷ []
-answerNumbers (refuses r) = unwritableNumber r ∷ 0 ∷ []
-
-abbrev pub ShortAnswer : Written → Type 0
-ShortAnswer (Length n) = n ≤ lotFile .bytes
-ShortAnswer (Refused r) = Unit

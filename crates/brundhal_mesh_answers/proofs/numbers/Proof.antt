@@ -1,11 +1,11 @@
--- `brundhal_answers::numbers` meets its contract: by the answer's cases. Assumes nothing.
+-- `brundhal_mesh_answers::numbers` meets its contract: by the answer's cases. Assumes nothing.
 use mathlib.Core.Path.{sym, ap, _∙_}
 use Rattle.inspector.specs.declared.Inspection.{Inspection}
 use Rattle.inspector.specs.Meaning.{inspectionHeld}
-use Rattle.brundhal_answers.specs.Meaning.{inspectionNumbers, inspectionFields}
+use Rattle.brundhal_mesh_answers.specs.Meaning.{inspectionNumbers, inspectionFields}
 use borrow.Author.Needs.{needs}
-use Rattle.brundhal_answers.proofs.numbers.Statement.{statement}
-use Rattle.brundhal_answers.proofs.numbers.Tie as tie
+use Rattle.brundhal_mesh_answers.proofs.numbers.Statement.{statement}
+use Rattle.brundhal_mesh_answers.proofs.numbers.Tie as tie
 
 enum-known-answer : tie.Need-enum-known-answer
 enum-known-answer c = search needs

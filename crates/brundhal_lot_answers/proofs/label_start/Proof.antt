@@ -1,9 +1,9 @@
--- `brundhal_answers::label_start` meets its contract: by the number. Assumes nothing.
+-- `brundhal_lot_answers::label_start` meets its contract: by the number. Assumes nothing.
 use mathlib.Core.Path.{sym}
 use borrow.Author.Needs.{needs}
-use Rattle.brundhal_answers.specs.Meaning.{other-start}
-use Rattle.brundhal_answers.proofs.label_start.Statement.{statement}
-use Rattle.brundhal_answers.proofs.label_start.Tie as tie
+use Rattle.brundhal_lot_answers.specs.Meaning.{other-start}
+use Rattle.brundhal_lot_answers.proofs.label_start.Statement.{statement}
+use Rattle.brundhal_lot_answers.proofs.label_start.Tie as tie
 
 returns : tie.Need-returns
 returns c = search needs
