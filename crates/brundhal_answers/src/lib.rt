@@ -2,16 +2,17 @@
 // exports the services. Every contract is an equation with `specs/Meaning.antt`: the fields of an answer are the numbers of the definition's.
 ghost use mathlib.Core.Path.{_≡_};
 ghost use Rattle.cell_address.specs.Meaning.{addressOf, moveOf};
-ghost use Rattle.inspector.specs.Meaning.{inspectionHeld, stampHeld, boundsHeld};
+ghost use Rattle.inspection_counts.specs.Meaning.{stampHeld};
+ghost use Rattle.inspector.specs.Meaning.{inspectionHeld, boundsHeld};
 ghost use Rattle.lot_format.specs.Writing.{unwritableNumber};
 ghost use Rattle.lot_writer.specs.Meaning.{unwritableHeld, writtenHeld};
 ghost use Rattle.brundhal_answers.specs.Meaning.{inspectionNumbers, inspectionFields, boundsNumbers, boundsFields, moveNumbers, moveFields, stampNumber, stampTold, lotFields, writtenFields, addressHeld, stampFor, labelStart, lotTold, answerNumbers, ShortAnswer};
 use cell_address::Address;
 use cell_address::Moved;
+use inspection_counts::Counts;
+use inspection_counts::Stamp;
 use inspector::Bounds;
-use inspector::Counts;
 use inspector::Inspection;
-use inspector::Stamp;
 use lot_writer::Unwritable;
 use lot_writer::Written;
 
@@ -137,7 +138,7 @@ fn stamp_number(stamp: Stamp) -> u32
     }
 }
 
-// The stamp of an inspection's answer, 0 sound, 1 faulty or 2 open: `inspector::stamp_of`. An answer with another number than 0 is that of a
+// The stamp of an inspection's answer, 0 sound, 1 faulty or 2 open: `inspection_counts::stamp_of`. An answer with another number than 0 is that of a
 // refused mesh, which has no stamp: 3.
 pub fn stamp_told(answer: BrundhalInspection) -> u32
     ensures { λ r. ⌜ r ≡ stampTold (stampFor answer) ⌝ }
@@ -145,7 +146,7 @@ pub fn stamp_told(answer: BrundhalInspection) -> u32
     if answer.number != 0 {
         return 3;
     }
-    stamp_number(inspector::stamp_of(Counts {
+    stamp_number(inspection_counts::stamp_of(Counts {
         valid: answer.valid,
         invalid: answer.invalid,
         undecided: answer.undecided,
