@@ -48,7 +48,7 @@ pub extern "C" fn brundhal_bounds(points: &[i32; 24], depth: u32) -> BrundhalBou
     brundhal_mesh_answers::pair(inspector::bounds_of(p, depth))
 }
 
-// The stamp of an inspection's answer, 0 sound, 1 faulty or 2 open: `inspector::stamp_of`. An answer with another number than 0 is that of a
+// The stamp of an inspection's answer, 0 sound, 1 faulty or 2 open: `inspection_counts::stamp_of`. An answer with another number than 0 is that of a
 // refused mesh, which has no stamp: 3.
 #[no_mangle]
 pub extern "C" fn brundhal_stamp(answer: BrundhalInspection) -> u32

@@ -2,14 +2,15 @@
 // inner crate: `brundhal` exports the services. Every contract is an equation with `specs/Meaning.antt`: the fields of an answer are the numbers of the definition's.
 ghost use mathlib.Core.Path.{_≡_};
 ghost use Rattle.cell_address.specs.Meaning.{addressOf, moveOf};
-ghost use Rattle.inspector.specs.Meaning.{inspectionHeld, stampHeld, boundsHeld};
+ghost use Rattle.inspection_counts.specs.Meaning.{stampHeld};
+ghost use Rattle.inspector.specs.Meaning.{inspectionHeld, boundsHeld};
 ghost use Rattle.brundhal_mesh_answers.specs.Meaning.{inspectionNumbers, inspectionFields, boundsNumbers, boundsFields, moveNumbers, moveFields, stampNumber, stampTold, addressHeld, stampFor};
 use cell_address::Address;
 use cell_address::Moved;
+use inspection_counts::Counts;
+use inspection_counts::Stamp;
 use inspector::Bounds;
-use inspector::Counts;
 use inspector::Inspection;
-use inspector::Stamp;
 
 // The number that answers an inspection, 0 or 1 to 4, and the four counts.
 #[repr(C)]
@@ -113,7 +114,7 @@ fn stamp_number(stamp: Stamp) -> u32
     }
 }
 
-// The stamp of an inspection's answer, 0 sound, 1 faulty or 2 open: `inspector::stamp_of`. An answer with another number than 0 is that of a
+// The stamp of an inspection's answer, 0 sound, 1 faulty or 2 open: `inspection_counts::stamp_of`. An answer with another number than 0 is that of a
 // refused mesh, which has no stamp: 3.
 pub fn stamp_told(answer: BrundhalInspection) -> u32
     ensures { λ r. ⌜ r ≡ stampTold (stampFor answer) ⌝ }
@@ -121,7 +122,7 @@ pub fn stamp_told(answer: BrundhalInspection) -> u32
     if answer.number != 0 {
         return 3;
     }
-    stamp_number(inspector::stamp_of(Counts {
+    stamp_number(inspection_counts::stamp_of(Counts {
         valid: answer.valid,
         invalid: answer.invalid,
         undecided: answer.undecided,

@@ -10,7 +10,7 @@ use lib.ListN.{length}
 use lib.IntN.{ℤ}
 use Rattle.definitions.specs.Limits.{Limits}
 use Rattle.definitions.specs.Bounds.{low, high}
-use Rattle.definitions.specs.Mesh.{MeshRefusal, refusal, records, report, Counts, countsOf, Inspection, meshAccepted, meshRefused, inspection, reportAfter, outOfRange, Bounds, bounds, tooDeep, outOfLimits, boundsOf, stampBy, onlyValid, someFaulty, stampOf}
+use Rattle.definitions.specs.Mesh.{MeshRefusal, refusal, records, report, countsOf, Inspection, meshAccepted, meshRefused, inspection, reportAfter, outOfRange, Bounds, bounds, tooDeep, outOfLimits, boundsOf}
 
 -- ---- an inspection, by what refuses the mesh
 module _ (L : Limits) (coordinates : List ℤ) (indices : List ℕ) (space : List ℤ) (D : ℕ) where
@@ -60,8 +60,3 @@ module _ (L : Limits) (xs : List ℤ) (D : ℕ) where
 
   pub bounds-inside : D ≤ L .depth → outOfRange L xs ≡ none → boundsOf L xs D ≡ bounds (low xs D) (high xs D)
   bounds-inside h e = bounds-is false none (le-ltb (L .depth) D h) e
-
--- ---- the stamp, by its two tests
-pub stamp-is : (n : Counts) (valid found : Bool) → onlyValid n ≡ valid → someFaulty n ≡ found → stampOf n ≡ stampBy valid found
-unfolding stampOf
-stamp-is n valid found e f = ap₂ stampBy e f

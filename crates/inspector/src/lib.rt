@@ -2,34 +2,27 @@
 // whole answer, every word of lent space included, as an equation with the definitions at their limits.
 //   inspect   the records of a mesh's elements, into lent report space, with four counts; or the number that refuses the mesh
 //   bounds_of the low and the high bound of eight points at a depth; or the number that refuses them
-//   stamp_of  the stamp of an accepted mesh, by its counts
-// The moves of cell addresses are in the crate `cell_address`.
+// The stamp of an accepted mesh, by its counts, is in the crate `inspection_counts`, the moves of cell addresses in `cell_address`.
 ghost use mathlib.Core.Path.{_≡_};
 ghost use mathlib.Core.Bool.{true};
 ghost use Prim.Native.Nat.{_-_, _*_, _/_, _%_, _^_, _<_, _≤_};
 ghost use lib.ListN.{length};
 ghost use Rattle.definitions.specs.Limits.{base, recordWords};
 ghost use Rattle.definitions.specs.Record.{recordOf};
-ghost use Rattle.definitions.specs.Mesh.{elementRecord, records, report as reportOf, countsOf, inspection, reportAfter, stampOf, boundsOf};
+ghost use Rattle.definitions.specs.Mesh.{elementRecord, records, report as reportOf, countsOf, inspection, reportAfter, boundsOf};
 ghost use Rattle.verdict_theory.specs.Kinds.{isKind, counted, countsTotal};
 ghost use Rattle.narrow_volumes.specs.Range.{InRange};
 ghost use Rattle.search_theory.specs.Bounds.{boundsAt};
 ghost use Rattle.narrow_bounds.specs.Meaning.{extremesOf};
-ghost use Rattle.inspector.specs.Meaning.{countsHeld, inspectionHeld, stampHeld, boundsHeld};
+ghost use Rattle.inspection_counts.specs.Meaning.{countsHeld};
+ghost use Rattle.inspector.specs.Meaning.{inspectionHeld, boundsHeld};
+use inspection_counts::Counts;
 use limits::MAX_DEPTH;
 use limits::RECORD_WORDS;
 use mesh_checks::Checked;
 use mesh_elements::Element;
 use mesh_points::First;
 use narrow_bounds::Extremes;
-
-// The number of records of each kind.
-pub struct Counts {
-    pub valid: u32,
-    pub invalid: u32,
-    pub undecided: u32,
-    pub refused: u32,
-}
 
 // The answer of an inspection: accepted, with the counts of valid, invalid, undecided and refused records; or why the mesh is refused.
 pub enum Inspection {
@@ -38,13 +31,6 @@ pub enum Inspection {
     BadCoordinates,
     BadIndices,
     BadSpace,
-}
-
-// The stamp of an accepted mesh.
-pub enum Stamp {
-    Sound,
-    Faulty,
-    Open,
 }
 
 // The answer of the bounds service: the low and the high bound, or why the points are refused.
@@ -158,19 +144,6 @@ pub fn inspect(coordinates: &[i32], indices: &[u32], depth: u32, report: &mut [i
         Checked::BadIndices => Inspection::BadIndices,
         Checked::BadSpace => Inspection::BadSpace,
     }
-}
-
-// The stamp of an accepted mesh, by its counts. An answer that refuses a mesh holds no counts, so a refused mesh has no stamp.
-pub fn stamp_of(n: Counts) -> Stamp
-    ensures { λ r. ⌜ stampHeld r ≡ stampOf (countsHeld n) ⌝ }
-{
-    if (0 < n.valid) & (n.invalid == 0) & (n.undecided == 0) & (n.refused == 0) {
-        return Stamp::Sound;
-    }
-    if (0 < n.invalid) | (0 < n.refused) {
-        return Stamp::Faulty;
-    }
-    Stamp::Open
 }
 
 // Both bounds of points that are in range.

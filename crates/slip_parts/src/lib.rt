@@ -8,11 +8,11 @@ ghost use lib.ListN.{length};
 ghost use Rattle.definitions.specs.Limits.{recordWords, base};
 ghost use Rattle.slip_format.specs.Slip.{slipLimits, line, wordStamp, stampWord, tallyLine, elementLines, inspectedSlip, meshSlip};
 ghost use Rattle.lot_format.specs.Runs.{groupsOf, lotFrom};
-ghost use Rattle.inspector.specs.Meaning.{countsHeld, stampHeld};
+ghost use Rattle.inspection_counts.specs.Meaning.{countsHeld, stampHeld};
 ghost use Rattle.bytes_output.specs.Behind.{Laid};
-use inspector::Counts;
+use inspection_counts::Counts;
+use inspection_counts::Stamp;
 use inspector::Inspection;
-use inspector::Stamp;
 
 // The lines of all elements, with the words of the record that the report has of each.
 fn element_lines<'a>(
@@ -95,7 +95,7 @@ pub fn inspected_slip<'a>(
     requires { ⌜ at + length (inspectedSlip (now label) (groupsOf (now names) (now lengths) (now offsets)) recordWords (length (now report) / recordWords) (now report) (countsHeld counts)) ≤ length (now out) ⌝ }
     ensures { λ r. ⌜ Laid at (inspectedSlip (now (label .entry)) (groupsOf (now (names .entry)) (now (lengths .entry)) (now (offsets .entry))) recordWords (length (now (report .entry)) / recordWords) (now (report .entry)) (countsHeld counts)) (now (out .entry)) (now (out .exit)) r ⌝ }
 {
-    let stamp = inspector::stamp_of(counts);
+    let stamp = inspection_counts::stamp_of(counts);
     let behind_label = slip_lines::lot_line(out, at, label);
     let behind_elements = element_lines(out, behind_label, label, names, lengths, offsets, report);
     let behind_tally = tally_line(out, behind_elements, counts);

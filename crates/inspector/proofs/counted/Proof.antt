@@ -8,7 +8,7 @@ use mir.Syntax.{w64}
 use mir.Val.{SFits, toZ, ofZ}
 use mir.Facts.{toZ-ofZ}
 use Rattle.inspector.specs.Kinds.{counted-valid, counted-invalid, counted-undecided, counted-refused}
-use Rattle.inspector.specs.Meaning.{countsHeld}
+use Rattle.inspection_counts.specs.Meaning.{countsHeld}
 use Rattle.inspector.proofs.counted.Statement.{statement}
 use Rattle.inspector.proofs.counted.Tie as tie
 

@@ -16,7 +16,7 @@ use Rattle.definitions.specs.Mesh.{elementRecord, countsOf}
 use Rattle.verdict_theory.specs.Kinds.{isKind, counted, countsTotal}
 use Rattle.verdict_theory.specs.Elements.{element-length, element-kind}
 use Rattle.inspector.specs.Kinds.{first-word}
-use Rattle.inspector.specs.Meaning.{countsHeld}
+use Rattle.inspection_counts.specs.Meaning.{countsHeld}
 use Rattle.inspector.specs.Reports.{recordAt, firstRecords, spaceAt, space-length, counts-next, space-last, counts-last-of, part-of, part-length, counted-so-far, put-record}
 use Rattle.inspector.proofs.write_records.Statement.{statement}
 use Rattle.inspector.proofs.write_records.Tie as tie

@@ -9,8 +9,7 @@ use Rattle.definitions.specs.Mesh.{Stamp, stampOf}
 use Rattle.lot_format.specs.Format.{Group}
 use Rattle.lot_format.specs.Runs.{groupsOf}
 use Rattle.slip_format.specs.Slip.{line, wordLot, wordStamp, stampWord, elementLines, tallyLine}
-use Rattle.inspector.specs.Meaning.{countsHeld}
-use Rattle.inspector.specs.Meaning.{stampHeld}
+use Rattle.inspection_counts.specs.Meaning.{countsHeld, stampHeld}
 use Rattle.bytes_output.specs.Progress.{Progress, Next, first, last, laid-none, part-fits, laid-more, laid-last}
 use Rattle.slip_parts.proofs.inspected_slip.Statement.{statement}
 use Rattle.slip_parts.proofs.inspected_slip.Tie as tie

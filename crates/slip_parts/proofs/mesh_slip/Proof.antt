@@ -9,7 +9,7 @@ use Rattle.definitions.specs.Mesh.{MeshRefusal, meshRefusalNumber, depthTooGrea
 use Rattle.lot_format.specs.Format.{Lot}
 use Rattle.lot_format.specs.Runs.{lotFrom}
 use Rattle.slip_format.specs.Slip.{slipLimits, refusedLine, inspectedSlip, meshSlip}
-use Rattle.inspector.specs.Meaning.{countsHeld}
+use Rattle.inspection_counts.specs.Meaning.{countsHeld}
 use Rattle.inspector.specs.declared.Inspection.{Inspection as HeldInspection}
 use Rattle.inspector.specs.Meaning.{inspectionHeld}
 use Rattle.bytes_output.specs.Behind.{laid-as}

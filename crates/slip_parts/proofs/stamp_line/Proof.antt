@@ -4,7 +4,7 @@ use mathlib.Core.List.{List, [], _∷_}
 use Prim.Native.Nat.{ℕ}
 use borrow.Author.Needs.{needs}
 use Rattle.slip_format.specs.Slip.{line, wordStamp, stampWord}
-use Rattle.inspector.specs.Meaning.{stampHeld}
+use Rattle.inspection_counts.specs.Meaning.{stampHeld}
 use Rattle.bytes_output.specs.Progress.{Progress, first, last, laid-none, part-fits, laid-more, laid-last}
 use Rattle.slip_lines.specs.Spaced.{ending, next-word}
 use Rattle.slip_parts.proofs.stamp_line.Statement.{statement}

@@ -5,8 +5,8 @@ use Prim.Native.Nat.{ℕ, _+_, _≤_}
 use borrow.Author.Needs.{needs}
 use lib.ListN.{length}
 use Rattle.slip_format.specs.Slip.{stampWord}
-use Rattle.inspector.specs.declared.Stamp.{Stamp}
-use Rattle.inspector.specs.Meaning.{stampHeld}
+use Rattle.inspection_counts.specs.declared.Stamp.{Stamp}
+use Rattle.inspection_counts.specs.Meaning.{stampHeld}
 use Rattle.bytes_output.specs.Behind.{Laid, laid-as}
 use Rattle.slip_parts.proofs.stamp_word.Statement.{statement}
 use Rattle.slip_parts.proofs.stamp_word.Tie as tie

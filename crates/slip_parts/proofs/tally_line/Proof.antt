@@ -5,7 +5,7 @@ use Prim.Native.Nat.{ℕ}
 use borrow.Author.Needs.{needs}
 use Rattle.slip_format.specs.Decimal.{decimal}
 use Rattle.slip_format.specs.Slip.{wordTally, tallyLine}
-use Rattle.inspector.specs.Meaning.{countsHeld}
+use Rattle.inspection_counts.specs.Meaning.{countsHeld}
 use Rattle.bytes_output.specs.Progress.{Progress, first, last, laid-none, part-fits, laid-more, laid-last}
 use Rattle.slip_lines.specs.Spaced.{ending, next-word}
 use Rattle.slip_parts.proofs.tally_line.Statement.{statement}

@@ -1,10 +1,10 @@
--- `inspector::stamp_of` meets its contract: its two tests are the definition's. Assumes nothing.
+-- `inspection_counts::stamp_of` meets its contract: its two tests are the definition's. Assumes nothing.
 use mathlib.Core.Path.{refl, sym}
 use mathlib.Core.Bool.{true, false}
-use Rattle.inspector.specs.Meaning.{countsHeld}
-use Rattle.inspector.specs.Answers.{stamp-is}
-use Rattle.inspector.proofs.stamp_of.Statement.{statement}
-use Rattle.inspector.proofs.stamp_of.Tie as tie
+use Rattle.inspection_counts.specs.Meaning.{countsHeld}
+use Rattle.inspection_counts.specs.Answers.{stamp-is}
+use Rattle.inspection_counts.proofs.stamp_of.Statement.{statement}
+use Rattle.inspection_counts.proofs.stamp_of.Tie as tie
 
 returns : tie.Need-returns
 returns c = sym (stamp-is (countsHeld (c .before .before .before .before .before .args .n)) true _ (c .if1 .taken) refl)
