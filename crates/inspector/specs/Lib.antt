@@ -1,6 +1,4 @@
 pub mod Meaning
-pub mod Kinds
-pub mod Points
 pub mod Reports
 pub mod Answers
 pub mod Own

@@ -8,8 +8,8 @@ use Rattle.slip_format.specs.Slip.{wordTally, tallyLine}
 use Rattle.inspection_counts.specs.Meaning.{countsHeld}
 use Rattle.bytes_output.specs.Progress.{Progress, first, last, laid-none, part-fits, laid-more, laid-last}
 use Rattle.slip_lines.specs.Spaced.{ending, next-word}
-use Rattle.slip_parts.proofs.tally_line.Statement.{statement}
-use Rattle.slip_parts.proofs.tally_line.Tie as tie
+use Rattle.slip_summary.proofs.tally_line.Statement.{statement}
+use Rattle.slip_summary.proofs.tally_line.Tie as tie
 
 -- what is left of the line behind its first word and behind each count
 abbrev Left : tie.Start → List (List ℕ) → List ℕ → ℕ → Type 0

@@ -8,8 +8,8 @@ use Rattle.slip_format.specs.Slip.{stampWord}
 use Rattle.inspection_counts.specs.declared.Stamp.{Stamp}
 use Rattle.inspection_counts.specs.Meaning.{stampHeld}
 use Rattle.bytes_output.specs.Behind.{Laid, laid-as}
-use Rattle.slip_parts.proofs.stamp_word.Statement.{statement}
-use Rattle.slip_parts.proofs.stamp_word.Tie as tie
+use Rattle.slip_summary.proofs.stamp_word.Statement.{statement}
+use Rattle.slip_summary.proofs.stamp_word.Tie as tie
 
 -- the word of the stamp that a branch has found has room, and laid down it is the stamp's
 fits : (s : tie.Start) {x : Stamp} → s .args .stamp ≡ x → s .args .at + length (32 ∷ stampWord (stampHeld x)) ≤ length (s .args .out .now)

@@ -7,8 +7,8 @@ use Rattle.slip_format.specs.Slip.{line, wordStamp, stampWord}
 use Rattle.inspection_counts.specs.Meaning.{stampHeld}
 use Rattle.bytes_output.specs.Progress.{Progress, first, last, laid-none, part-fits, laid-more, laid-last}
 use Rattle.slip_lines.specs.Spaced.{ending, next-word}
-use Rattle.slip_parts.proofs.stamp_line.Statement.{statement}
-use Rattle.slip_parts.proofs.stamp_line.Tie as tie
+use Rattle.slip_summary.proofs.stamp_line.Statement.{statement}
+use Rattle.slip_summary.proofs.stamp_line.Tie as tie
 
 -- the stamp, and what is left of the line behind its first word and behind the stamp
 abbrev stampOf : tie.Start → List ℕ

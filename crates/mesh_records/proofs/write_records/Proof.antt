@@ -1,4 +1,4 @@
--- `inspector::write_records` meets its contract: before each turn the first e records are written and counted, and the space after them is as it was. Assumes nothing.
+-- `mesh_records::write_records` meets its contract: before each turn the first e records are written and counted, and the space after them is as it was. Assumes nothing.
 use mathlib.Core.Path.{_≡_, refl, sym, ap, _∙_}
 use mathlib.Core.List.{List}
 use Prim.Native.Nat.{ℕ, _*_, _-_, _/_, _≤_}
@@ -15,11 +15,11 @@ use Rattle.definitions.specs.Record.{kindWord}
 use Rattle.definitions.specs.Mesh.{elementRecord, countsOf}
 use Rattle.verdict_theory.specs.Kinds.{isKind, counted, countsTotal}
 use Rattle.verdict_theory.specs.Elements.{element-length, element-kind}
-use Rattle.inspector.specs.Kinds.{first-word}
+use Rattle.mesh_records.specs.Kinds.{first-word}
 use Rattle.inspection_counts.specs.Meaning.{countsHeld}
-use Rattle.inspector.specs.Reports.{recordAt, firstRecords, spaceAt, space-length, counts-next, space-last, counts-last-of, part-of, part-length, counted-so-far, put-record}
-use Rattle.inspector.proofs.write_records.Statement.{statement}
-use Rattle.inspector.proofs.write_records.Tie as tie
+use Rattle.mesh_records.specs.Reports.{recordAt, firstRecords, spaceAt, space-length, counts-next, space-last, counts-last-of, part-of, part-length, counted-so-far, put-record}
+use Rattle.mesh_records.proofs.write_records.Statement.{statement}
+use Rattle.mesh_records.proofs.write_records.Tie as tie
 
 abbrev Inv-loop : tie.InvT-loop
 Inv-loop coordinates indices depth report₀ counts₀ n e₀ report counts e = (e ≤ n) × (report ≡ spaceAt base coordinates indices depth e report₀) × (countsHeld counts ≡ countsOf (firstRecords base coordinates indices depth e))

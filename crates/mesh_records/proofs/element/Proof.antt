@@ -1,4 +1,4 @@
--- `inspector::element` meets its contract: by the element's fault, or its points. Assumes nothing.
+-- `mesh_records::element` meets its contract: by the element's fault, or its points. Assumes nothing.
 use mathlib.Core.Path.{_≡_, refl, sym, ap, _∙_, subst}
 use mathlib.Core.List.{List}
 use mathlib.Core.Option.{some}
@@ -16,8 +16,8 @@ use Rattle.mesh_elements.specs.Meaning.{elementOf}
 use Rattle.mesh_elements.specs.Elements.{whole-element, points-gathered}
 use Rattle.mesh_points.specs.Points.{read-within, length-points}
 use borrow.Author.Needs.{needs}
-use Rattle.inspector.proofs.element.Statement.{statement}
-use Rattle.inspector.proofs.element.Tie as tie
+use Rattle.mesh_records.proofs.element.Statement.{statement}
+use Rattle.mesh_records.proofs.element.Tie as tie
 
 fault-requires : tie.Need-fault-requires
 fault-requires c κs = search needs

@@ -1,4 +1,4 @@
--- `inspector::counted` meets its contract: by the kind. Assumes nothing.
+-- `mesh_records::counted` meets its contract: by the kind. Assumes nothing.
 use mathlib.Core.Path.{_≡_, sym, _∙_, ap}
 use Prim.Native.Nat.{ℕ}
 use native.Mathlib.Omega.{arith}
@@ -7,10 +7,10 @@ use lib.IntN.{ℤ, pos}
 use mir.Syntax.{w64}
 use mir.Val.{SFits, toZ, ofZ}
 use mir.Facts.{toZ-ofZ}
-use Rattle.inspector.specs.Kinds.{counted-valid, counted-invalid, counted-undecided, counted-refused}
+use Rattle.mesh_records.specs.Kinds.{counted-valid, counted-invalid, counted-undecided, counted-refused}
 use Rattle.inspection_counts.specs.Meaning.{countsHeld}
-use Rattle.inspector.proofs.counted.Statement.{statement}
-use Rattle.inspector.proofs.counted.Tie as tie
+use Rattle.mesh_records.proofs.counted.Statement.{statement}
+use Rattle.mesh_records.proofs.counted.Tie as tie
 
 -- the number that the bits of a kind stand for
 kind-of : (z : ℤ) (b : ℕ) → SFits w64 z → ofZ w64 z ≡ b → z ≡ toZ w64 b

@@ -1,10 +1,10 @@
--- `inspector::points_record` meets its contract: the coefficients are as small as a search asks. Assumes nothing.
+-- `mesh_records::points_record` meets its contract: the coefficients are as small as a search asks. Assumes nothing.
 use native.Mathlib.Omega.{arith}
 use denote.Ref.{now}
 use borrow.Author.Needs.{needs}
-use Rattle.inspector.specs.Points.{narrow-points, points-small}
-use Rattle.inspector.proofs.points_record.Statement.{statement}
-use Rattle.inspector.proofs.points_record.Tie as tie
+use Rattle.mesh_records.specs.Points.{narrow-points, points-small}
+use Rattle.mesh_records.proofs.points_record.Statement.{statement}
+use Rattle.mesh_records.proofs.points_record.Tie as tie
 
 coefficients-requires : tie.Need-coefficients-requires
 coefficients-requires c κs = let s = c .before in narrow-points (now (s .args .p)) (s .pre .0)
