@@ -1,5 +1,5 @@
 // The services for callers in C and Rust: the same answers as plain numbers. include/brundhal.h declares them. The structs and what they
-// say: `brundhal_mesh_answers` and `brundhal_lot_answers`.
+// say: `brundhal_cell_answers`, `brundhal_mesh_answers` and `brundhal_lot_answers`.
 // Nothing has to be checked first. A slice passes as a pointer and a length in elements; a null or an overlapping pointer is the
 // caller's fault, and so is a length that is not that of the memory behind it.
 ghost use mathlib.Core.Path.{_≡_};
@@ -15,15 +15,16 @@ ghost use Rattle.lot_format.specs.Naming.{naming, nameGiven};
 ghost use Rattle.lot_format.specs.Writing.{writing, fileOf};
 ghost use Rattle.slip_format.specs.Slip.{slipLimits, slipOf};
 ghost use Rattle.lot_writer.specs.Meaning.{runs};
-ghost use Rattle.brundhal_mesh_answers.specs.Meaning.{inspectionNumbers, inspectionFields, boundsNumbers, boundsFields, moveNumbers, moveFields, stampTold, addressHeld, stampFor};
+ghost use Rattle.brundhal_cell_answers.specs.Meaning.{moveNumbers, moveFields, addressHeld};
+ghost use Rattle.brundhal_mesh_answers.specs.Meaning.{inspectionNumbers, inspectionFields, boundsNumbers, boundsFields, stampTold, stampFor};
 ghost use Rattle.brundhal_lot_answers.specs.Meaning.{lotNumbers, lotFields, writingNumbers, writtenFields, nameNumbers, nameFields, nameTold};
+use brundhal_cell_answers::BrundhalAddress;
+use brundhal_cell_answers::BrundhalMove;
 use brundhal_lot_answers::BrundhalLot;
 use brundhal_lot_answers::BrundhalName;
 use brundhal_lot_answers::BrundhalWritten;
-use brundhal_mesh_answers::BrundhalAddress;
 use brundhal_mesh_answers::BrundhalBounds;
 use brundhal_mesh_answers::BrundhalInspection;
-use brundhal_mesh_answers::BrundhalMove;
 
 // Inspects a mesh: `inspector::inspect`.
 #[no_mangle]
@@ -62,21 +63,21 @@ pub extern "C" fn brundhal_stamp(answer: BrundhalInspection) -> u32
 pub extern "C" fn brundhal_child(q: BrundhalAddress, n: u32) -> BrundhalMove
     ensures { λ r. ⌜ moveFields r ≡ moveNumbers (childAddress (base .depth) (addressHeld q) n) ⌝ }
 {
-    brundhal_mesh_answers::moved(brundhal_mesh_answers::address(q).child(n))
+    brundhal_cell_answers::moved(brundhal_cell_answers::address(q).child(n))
 }
 
 #[no_mangle]
 pub extern "C" fn brundhal_corner(q: BrundhalAddress, n: u32) -> BrundhalMove
     ensures { λ r. ⌜ moveFields r ≡ moveNumbers (cornerAddress (base .depth) (addressHeld q) n) ⌝ }
 {
-    brundhal_mesh_answers::moved(brundhal_mesh_answers::address(q).corner(n))
+    brundhal_cell_answers::moved(brundhal_cell_answers::address(q).corner(n))
 }
 
 #[no_mangle]
 pub extern "C" fn brundhal_parent(q: BrundhalAddress) -> BrundhalMove
     ensures { λ r. ⌜ moveFields r ≡ moveNumbers (parentAddress (base .depth) (addressHeld q)) ⌝ }
 {
-    brundhal_mesh_answers::moved(brundhal_mesh_answers::address(q).parent())
+    brundhal_cell_answers::moved(brundhal_cell_answers::address(q).parent())
 }
 
 // Reads a lot file: `lot_reader::read`. C has no part of a slice, so the label is told by its place in the file and its length.
@@ -141,7 +142,7 @@ pub extern "C" fn brundhal_name(
     ensures { λ r. ⌜ nameTold r (now (label .entry)) (now (names .entry)) ≡ nameGiven (naming lotFile (now (label .entry)) (now (names .entry)) (now (lengths .entry)) (now (offsets .entry)) elements element) ⌝ }
 {
     let number = lot_naming::refusal_of(label, names, lengths, offsets, elements, element);
-    let part = lot_groups::part_in_force(names, lengths, offsets, element);
+    let part = lot_group_names::part_in_force(names, lengths, offsets, element);
     brundhal_lot_answers::name(number, part, label.len())
 }
 

@@ -4,7 +4,7 @@ ghost use mathlib.Core.Path.{_≡_};
 ghost use Rattle.lot_format.specs.Writing.{unwritableNumber};
 ghost use Rattle.lot_writer.specs.Meaning.{unwritableHeld, writtenHeld};
 ghost use Rattle.brundhal_lot_answers.specs.Meaning.{lotFields, writtenFields, nameFields, labelStart, lotTold, answerNumbers, ShortAnswer, nameSaid};
-use lot_groups::Part;
+use lot_group_names::Part;
 use lot_writer::Unwritable;
 use lot_writer::Written;
 

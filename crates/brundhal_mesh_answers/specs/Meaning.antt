@@ -1,4 +1,4 @@
--- The answers about meshes and addresses as plain numbers, numbered as document 01 numbers them, and what a caller's plain numbers stand for.
+-- The answers about meshes as plain numbers, numbered as document 01 numbers them, and what a caller's plain numbers stand for.
 use mathlib.Core.Path.{_≡_, refl, _∙_, ap}
 use mathlib.Core.Bool.{Bool, true, false}
 use mathlib.Core.List.{List, [], _∷_}
@@ -8,12 +8,9 @@ use Prim.Native.Nat.{ℕ}
 use lib.Dec.{eqb}
 use lib.ListN.{getD}
 use lib.IntN.{ℤ, pos}
-use Rattle.definitions.specs.Address.{Address, Move}
 use Rattle.definitions.specs.Mesh.{depthTooGreat, badCoordinates, badIndices, badSpace, Counts, Inspection, meshAccepted, meshRefused, inspectionNumber, inspectionCounts, Stamp, sound, faulty, «open», stampOf, stampGiven, Bounds, boundsNumber, boundsLow, boundsHigh}
 use Rattle.brundhal_mesh_answers.specs.declared.BrundhalInspection.{BrundhalInspection}
 use Rattle.brundhal_mesh_answers.specs.declared.BrundhalBounds.{BrundhalBounds}
-use Rattle.brundhal_mesh_answers.specs.declared.BrundhalAddress.{BrundhalAddress}
-use Rattle.brundhal_mesh_answers.specs.declared.BrundhalMove.{BrundhalMove}
 
 -- ---- what an answer says: the numbers of the definition's answer, and beside them the fields of the struct, each once and in the same order
 -- an inspection: its number and its counts
@@ -30,17 +27,6 @@ boundsNumbers b = pos (boundsNumber b) ∷ boundsLow b ∷ boundsHigh b ∷ []
 abbrev pub boundsFields : BrundhalBounds → List ℤ
 boundsFields r = pos (r .number) ∷ r .low ∷ r .high ∷ []
 
--- a move: 1 if it was made, otherwise 0, and the address that it led to, or the same one
-abbrev pub madeNumber : Bool → ℕ
-madeNumber true = 1
-madeNumber false = 0
-
-abbrev pub moveNumbers : Move → List ℕ
-moveNumbers m = madeNumber (m .made) ∷ m .address .level ∷ m .address .a ∷ m .address .b ∷ m .address .c ∷ []
-
-abbrev pub moveFields : BrundhalMove → List ℕ
-moveFields r = r .made ∷ r .level ∷ r .a ∷ r .b ∷ r .c ∷ []
-
 -- a stamp: 0 sound, 1 faulty, 2 open; 3 where there is none
 abbrev pub stampNumber : Stamp → ℕ
 stampNumber sound = 0
@@ -52,9 +38,6 @@ stampTold (some s) = stampNumber s
 stampTold none = 3
 
 -- ---- what a caller's numbers stand for
-abbrev pub addressHeld : BrundhalAddress → Address
-addressHeld q = record { level = q .level; a = q .a; b = q .b; c = q .c }
-
 abbrev pub countsGiven : BrundhalInspection → Counts
 countsGiven r = record { valid = r .valid; invalid = r .invalid; undecided = r .undecided; refused = r .refused }
 

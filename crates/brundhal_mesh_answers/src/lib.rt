@@ -1,12 +1,9 @@
-// The answers of inspections, bounds, stamps and moves as plain numbers for callers in C and Rust, and what their plain numbers stand for. An
+// The answers of inspections, bounds and stamps as plain numbers for callers in C and Rust, and what their plain numbers stand for. An
 // inner crate: `brundhal` exports the services. Every contract is an equation with `specs/Meaning.antt`: the fields of an answer are the numbers of the definition's.
 ghost use mathlib.Core.Path.{_≡_};
-ghost use Rattle.cell_address.specs.Meaning.{addressOf, moveOf};
 ghost use Rattle.inspection_counts.specs.Meaning.{stampHeld};
 ghost use Rattle.inspector.specs.Meaning.{inspectionHeld, boundsHeld};
-ghost use Rattle.brundhal_mesh_answers.specs.Meaning.{inspectionNumbers, inspectionFields, boundsNumbers, boundsFields, moveNumbers, moveFields, stampNumber, stampTold, addressHeld, stampFor};
-use cell_address::Address;
-use cell_address::Moved;
+ghost use Rattle.brundhal_mesh_answers.specs.Meaning.{inspectionNumbers, inspectionFields, boundsNumbers, boundsFields, stampNumber, stampTold, stampFor};
 use inspection_counts::Counts;
 use inspection_counts::Stamp;
 use inspector::Bounds;
@@ -28,25 +25,6 @@ pub struct BrundhalBounds {
     pub number: u32,
     pub low: i64,
     pub high: i64,
-}
-
-// A level and three grid numbers.
-#[repr(C)]
-pub struct BrundhalAddress {
-    pub level: u32,
-    pub a: u32,
-    pub b: u32,
-    pub c: u32,
-}
-
-// Whether a move was made, 1 or 0, and the address that it led to, or the same one.
-#[repr(C)]
-pub struct BrundhalMove {
-    pub made: u32,
-    pub level: u32,
-    pub a: u32,
-    pub b: u32,
-    pub c: u32,
 }
 
 // A refused mesh: its number, and counts 0.
@@ -128,38 +106,4 @@ pub fn stamp_told(answer: BrundhalInspection) -> u32
         undecided: answer.undecided,
         refused: answer.refused,
     }))
-}
-
-// An address that is handed in.
-pub fn address(q: BrundhalAddress) -> Address
-    ensures { λ r. ⌜ addressOf r ≡ addressHeld q ⌝ }
-{
-    Address {
-        level: q.level,
-        a: q.a,
-        b: q.b,
-        c: q.c,
-    }
-}
-
-// A move of an address.
-pub fn moved(answer: Moved) -> BrundhalMove
-    ensures { λ r. ⌜ moveFields r ≡ moveNumbers (moveOf answer) ⌝ }
-{
-    match answer {
-        Moved::To(q) => BrundhalMove {
-            made: 1,
-            level: q.level,
-            a: q.a,
-            b: q.b,
-            c: q.c,
-        },
-        Moved::Not(q) => BrundhalMove {
-            made: 0,
-            level: q.level,
-            a: q.a,
-            b: q.b,
-            c: q.c,
-        },
-    }
 }

@@ -1,14 +1,12 @@
 // Cell addresses and their moves.
 // The reference cube is the cell of level 0, and a cell cut into eight gives cells one level finer (document 01 says "cube" for a cell
 // of any level). The crate offers `Address` with the moves `child`, `corner` and `parent`. Each takes the address by value and hands back
-// the moved one, or the same one where the move can't be made. `side` is the rule by which corners and children are numbered. The
-// moves and `side` ask nothing of the caller: any address and any number is answered, as `childAddress`, `cornerAddress`, `parentAddress` and `side` of the
-// definitions say.
+// the moved one, or the same one where the move can't be made. The moves ask nothing of the caller: any address and any number is
+// answered, as `childAddress`, `cornerAddress` and `parentAddress` of the definitions say.
 ghost use mathlib.Core.Path.{_≡_};
 ghost use Prim.Native.Nat.{_^_, _<_, _≤_};
 ghost use Rattle.definitions.specs.Limits.{base};
-ghost use Rattle.definitions.specs.Jacobian.{side as sideOf};
-ghost use Rattle.definitions.specs.Address.{isCell, isCorner, childAddress, cornerAddress, parentAddress};
+ghost use Rattle.definitions.specs.Address.{isCell, childAddress, cornerAddress, parentAddress};
 ghost use Rattle.cell_address.specs.Meaning.{addressOf, moveOf, offsetBy};
 use limits::MAX_DEPTH;
 
@@ -36,29 +34,6 @@ fn grid_size(level: u32) -> u32
     1 << level
 }
 
-// Whether n numbers a corner or a child: 1 to 8.
-fn is_corner(n: u32) -> bool
-    ensures { λ r. ⌜ r ≡ isCorner n ⌝ }
-{
-    (1 <= n) & (n <= 8)
-}
-
-// The side, 0 or 1, of corner k, 0 to 7, in direction 0, 1 or 2; a larger direction counts as 2, and a larger k has side 0.
-pub fn side(d: u32, k: u32) -> u32
-    ensures { λ r. ⌜ (r ≡ sideOf d k) × (r ≤ 1) ⌝ }
-{
-    if 8 <= k {
-        return 0;
-    }
-    if d == 0 {
-        return (k + 1) / 2 % 2;
-    }
-    if d == 1 {
-        return k / 2 % 2;
-    }
-    k / 4
-}
-
 impl Address {
     // Whether the address is a cell's: its level is at most the largest depth, and each grid number is below 2^level.
     fn is_cell(self) -> bool
@@ -80,9 +55,9 @@ impl Address {
         let k = n - 1;
         Address {
             level: self.level,
-            a: self.a + side(0, k),
-            b: self.b + side(1, k),
-            c: self.c + side(2, k),
+            a: self.a + cell_corners::side(0, k),
+            b: self.b + cell_corners::side(1, k),
+            c: self.c + cell_corners::side(2, k),
         }
     }
 
@@ -90,7 +65,7 @@ impl Address {
     pub fn child(self, n: u32) -> Moved
         ensures { λ r. ⌜ moveOf r ≡ childAddress (base .depth) (addressOf self) n ⌝ }
     {
-        if self.is_cell() & ((self.level < MAX_DEPTH) & is_corner(n)) {
+        if self.is_cell() & ((self.level < MAX_DEPTH) & cell_corners::is_corner(n)) {
             let doubled = Address {
                 level: self.level + 1,
                 a: 2 * self.a,
@@ -107,7 +82,7 @@ impl Address {
     pub fn corner(self, n: u32) -> Moved
         ensures { λ r. ⌜ moveOf r ≡ cornerAddress (base .depth) (addressOf self) n ⌝ }
     {
-        if self.is_cell() & is_corner(n) {
+        if self.is_cell() & cell_corners::is_corner(n) {
             Moved::To(self.offset(n))
         } else {
             Moved::Not(self)

@@ -19,10 +19,11 @@ use Rattle.lot_format.specs.Reached.{Next, Grows, reached-next, reached-grows, 
 use Rattle.lot_format.specs.Accepted.{accepted-short}
 use Rattle.lot_scan.specs.declared.Counts.{Counts}
 use Rattle.lot_scan.specs.Meaning.{noCounts, countedOf, Small}
-use Rattle.lot_hand_out.specs.Meaning.{Fitting, Handable}
+use Rattle.lot_entry_hand_out.specs.Meaning.{Fitting}
+use Rattle.lot_hand_out.specs.Meaning.{Handable}
 use Rattle.lot_scan.specs.Seen.{Seen, before, seen-start, seen-whole, seen-whole-lot, seen-small}
 use Rattle.lot_scan.specs.Scans.{as-many-lengths, as-many-offsets}
-use Rattle.lot_hand_out.proofs.EntryRuns.{Laid}
+use Rattle.lot_entry_hand_out.specs.EntryRuns.{Laid}
 
 -- the five lent runs
 pub record Lent : Type 0 where

@@ -1,3 +1,1 @@
-mod Laws
-mod EntryRuns
 mod Handed

@@ -59,5 +59,5 @@ pub fn name_of<'a>(
     if refusal != 0 {
         return &label[0..0];
     }
-    lot_groups::name_of(label, names, lengths, offsets, element)
+    lot_group_names::name_of(label, names, lengths, offsets, element)
 }

@@ -111,8 +111,8 @@ fn put_lot(
     ensures { λ r. ⌜ Laid 0 (written (lotFrom (runs (now (label .entry)) (now (nodes .entry)) (now (elements .entry)) (now (names .entry)) (now (lengths .entry)) (now (offsets .entry))))) (now (out .entry)) (now (out .exit)) r ⌝ }
 {
     let labelled = lot_entry_writer::put_label(out, 0, label);
-    let noded = lot_entry_writer::put_nodes(out, labelled, nodes);
-    let grouped = lot_entry_writer::put_grouped(out, noded, elements, names, lengths, offsets);
+    let noded = lot_entries_writer::put_nodes(out, labelled, nodes);
+    let grouped = lot_entries_writer::put_grouped(out, noded, elements, names, lengths, offsets);
     lot_entry_writer::put_end(out, grouped)
 }
 

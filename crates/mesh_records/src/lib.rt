@@ -6,39 +6,10 @@ ghost use mathlib.Core.Bool.{true};
 ghost use Prim.Native.Nat.{_-_, _*_, _/_, _%_, _^_, _<_, _≤_};
 ghost use lib.ListN.{length};
 ghost use Rattle.definitions.specs.Limits.{base, recordWords};
-ghost use Rattle.definitions.specs.Record.{recordOf};
-ghost use Rattle.definitions.specs.Mesh.{elementRecord, records, report as reportOf, countsOf};
+ghost use Rattle.definitions.specs.Mesh.{records, report as reportOf, countsOf};
 ghost use Rattle.verdict_theory.specs.Kinds.{isKind, counted, countsTotal};
-ghost use Rattle.narrow_volumes.specs.Range.{InRange};
 ghost use Rattle.inspection_counts.specs.Meaning.{countsHeld};
 use inspection_counts::Counts;
-use limits::RECORD_WORDS;
-use mesh_elements::Element;
-
-// The record of eight points that are all in range.
-fn points_record(p: &[i32; 24], depth: u32) -> [i64; RECORD_WORDS]
-    requires { ⌜ InRange (base .range) (now p) × (depth ≤ base .depth) ⌝ }
-    ensures { λ r. ⌜ r ≡ recordOf (now (p .entry)) depth ⌝ }
-{
-    let mut g = [0i64; 27];
-    narrow_coefficients::coefficients(p, &mut g);
-    narrow_search::record(&g, depth)
-}
-
-// The record of the element whose eight indices are lent.
-fn element(coordinates: &[i32], ix: &[u32], depth: u32) -> [i64; RECORD_WORDS]
-    requires { ⌜ (length (now ix) ≡ 8) × (depth ≤ base .depth) ⌝ }
-    ensures { λ r. ⌜ r ≡ elementRecord base (now (coordinates .entry)) (now (ix .entry)) depth ⌝ }
-{
-    let mut p = [0i32; 24];
-    let fault = mesh_elements::fault(coordinates, ix, &mut p);
-    match fault {
-        Element::Whole => points_record(&p, depth),
-        Element::Missing(place, index) => mesh_elements::fault_words(fault),
-        Element::Twice(lower, higher) => mesh_elements::fault_words(fault),
-        Element::Outside(place, axis) => mesh_elements::fault_words(fault),
-    }
-}
 
 // The counts with one record more, by its word 0, which is that of a kind.
 fn counted(kind: i64, n: Counts) -> Counts
@@ -93,7 +64,7 @@ pub fn write_records(coordinates: &[i32], indices: &[u32], depth: u32, report: &
     let n = indices.len() / 8;
     for e in 0..n {
         let at = 8 * e;
-        let words = element(coordinates, &indices[at..at + 8], depth);
+        let words = mesh_element_records::element(coordinates, &indices[at..at + 8], depth);
         let kind = words[0];
         counts = counted(kind, counts);
         mesh_report::put(report, e, words);

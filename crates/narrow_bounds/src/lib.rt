@@ -71,9 +71,9 @@ fn survey(g: &[i64; 27], left: u32, r: Extremes) -> Extremes
     let mut child = [0i64; 27];
     let mut e = r;
     for k in 0..8 {
-        narrow_search::half_at(2, k % 4 == 0, g, k, &mut half);
-        narrow_search::half_at(1, k % 2 == 0, &half, k, &mut quarter);
-        narrow_subdivision::halve(0, cell_address::side(0, k), &quarter, &mut child);
+        narrow_children::half_at(2, k % 4 == 0, g, k, &mut half);
+        narrow_children::half_at(1, k % 2 == 0, &half, k, &mut quarter);
+        narrow_subdivision::halve(0, cell_corners::side(0, k), &quarter, &mut child);
         e = survey(&child, left - 1, e);
     }
     e

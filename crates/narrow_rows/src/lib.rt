@@ -1,12 +1,12 @@
-// A row of three numbers of one word, cut by de Casteljau's rule and kept four times larger. An inner crate, for `narrow_subdivision`.
+// A row of three numbers of one word, cut by de Casteljau's rule and kept four times larger. An inner crate, for `narrow_halves`.
 ghost use mathlib.Core.Path.{_≡_};
 ghost use mathlib.Core.List.{[], _∷_};
-ghost use Prim.Native.Nat.{_<_};
+ghost use Prim.Native.Nat.{_+_, _<_};
 ghost use lib.ListN.{length};
 ghost use Rattle.foundation.specs.Polynomial.{integers};
 ghost use Rattle.foundation.specs.Words.{args, Within};
 ghost use Rattle.definitions.specs.Subdivision.{cutRow};
-ghost use Rattle.expansion_theory.specs.Rows.{putRow};
+ghost use Rattle.expansion_theory.specs.Rows.{putRow, Row, Holds};
 ghost use Rattle.narrow_rows.specs.Word.{cutLargest};
 
 // The half on side h of the row p, q, r, four times larger: its entry i.
@@ -33,7 +33,7 @@ fn blend(p: i64, q: i64, r: i64, h: u32, i: usize) -> i64
 }
 
 // The half on side h of the row p, q, r, into out at x, y, z.
-pub fn put_row(p: i64, q: i64, r: i64, h: u32, x: usize, y: usize, z: usize, out: &mut [i64])
+fn put_row(p: i64, q: i64, r: i64, h: u32, x: usize, y: usize, z: usize, out: &mut [i64])
     requires { ⌜ Within cutLargest (p ∷ q ∷ r ∷ []) ⌝ }
     requires { ⌜ (x < length (now out)) × (y < length (now out)) × (z < length (now out)) ⌝ }
     ensures { λ _. ⌜ now (out .exit) ≡ putRow h (p ∷ q ∷ r ∷ []) x y z (now (out .entry)) ⌝ }
@@ -44,4 +44,25 @@ pub fn put_row(p: i64, q: i64, r: i64, h: u32, x: usize, y: usize, z: usize, out
     out[x] = start;
     out[y] = middle;
     out[z] = end;
+}
+
+// Row j of direction d, the coefficients x, y, z of c: its half on side h, into out. Only the contract reads d and j.
+pub fn half_row(
+    h: u32,
+    c: &[i64; 27],
+    d: usize,
+    j: usize,
+    x: usize,
+    y: usize,
+    z: usize,
+    out: &mut [i64; 27],
+)
+    requires { ⌜ Row d j x y z ⌝ }
+    requires { ⌜ Holds cutLargest d h j (now c) (now out) ⌝ }
+    ensures { λ _. ⌜ Holds cutLargest d h (j + 1) (now (c .entry)) (now (out .exit)) ⌝ }
+{
+    let p = c[x];
+    let q = c[y];
+    let r = c[z];
+    put_row(p, q, r, h, x, y, z, out);
 }

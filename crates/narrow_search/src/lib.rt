@@ -1,56 +1,18 @@
 // The recursive search of an element's cells, with numbers of one word. An inner crate, for the inspector's own crates: its
 // callers see to it that the numbers stay small enough at every level that is asked for (`Small`).
 ghost use mathlib.Core.Path.{_≡_};
-ghost use mathlib.Core.Bool.{false};
 ghost use mathlib.Core.List.{List};
-ghost use Prim.Native.Nat.{_+_, _^_, _<_, _≤_};
-ghost use lib.ListN.{length};
+ghost use Prim.Native.Nat.{_^_, _≤_};
 ghost use lib.IntN.{ℤ};
-ghost use Rattle.definitions.specs.Jacobian.{side};
 ghost use Rattle.definitions.specs.Coefficients.{coefficients};
 ghost use Rattle.definitions.specs.Record.{recordOf};
-ghost use Rattle.definitions.specs.Subdivision.{halve};
-ghost use Rattle.expansion_theory.specs.Control.{Cuttable};
 ghost use Rattle.verdict_theory.specs.Search.{Pass, visit as visited};
 ghost use Rattle.search_theory.specs.Meaning.{cellOf, Small, deepest, Room, Held};
-ghost use Rattle.search_theory.specs.Children.{Ready, Run};
 ghost use Rattle.search_theory.specs.Levels.{wholeOf, fresh};
 ghost use Rattle.narrow_rows.specs.Word.{largest};
 ghost use Rattle.narrow_pass.specs.Meaning.{passWords};
 use limits::RECORD_WORDS;
 use narrow_pass::PASS_WORDS;
-
-// The half of c in direction d that child k, 0 to 7, lies in: made where child k is the first in it, else there already.
-pub fn half_at(d: u32, first: bool, c: &[i64; 27], k: u32, out: &mut [i64; 27])
-    requires { ⌜ Cuttable largest (now c) × (d < 3) × (length (now out) ≡ 27) ⌝ }
-    requires { ⌜ (first ≡ false → now out ≡ halve d (side d k) (now c)) ⌝ }
-    ensures { λ _. ⌜ now (out .exit) ≡ halve d (side d k) (now (c .entry)) ⌝ }
-{
-    if first {
-        narrow_subdivision::halve(d, cell_address::side(d, k), c, out);
-    }
-}
-
-// How many children from k on are known to have no low coefficient: 4 where their half has none, 2 where their quarter has none. The half
-// is tested where child k is the first in it, and so is the quarter; 0 says nothing, and the quarter is there to make child k from.
-fn clear(g: &[i64; 27], k: u32, half: &mut [i64; 27], quarter: &mut [i64; 27]) -> u32
-    requires { ⌜ Small largest (now g) 1 × (k < 8) × Ready (now g) k (now half) (now quarter) ⌝ }
-    ensures { λ n. ⌜ Run (now (g .entry)) k n (now (half .exit)) (now (quarter .exit)) ⌝ }
-{
-    half_at(2, k % 4 == 0, g, k, half);
-    if k % 4 == 0 {
-        if narrow_pass::lowest(half) == 0 {
-            return 4;
-        }
-    }
-    half_at(1, k % 2 == 0, half, k, quarter);
-    if k % 2 == 0 {
-        if narrow_pass::lowest(quarter) == 0 {
-            return 2;
-        }
-    }
-    0
-}
 
 // The due cells `left` levels below this one, in path order, after what was found before: a cell with a low coefficient is cut into
 // its eight children, by halves, and children that are known to have none are passed over.
@@ -61,13 +23,13 @@ fn visit(g: &[i64; 27], a: u32, b: u32, c: u32, left: u32, pass: &mut [i64; PASS
     if narrow_pass::ended(pass) {
         return;
     }
-    let n = narrow_pass::lowest(g);
+    let n = narrow_lowest::lowest(g);
     if n == 0 {
-        narrow_pass::skip(1, left, pass);
+        narrow_opening::skip(1, left, pass);
         return;
     }
     if left == 0 {
-        narrow_pass::open_low(g, a, b, c, n, pass);
+        narrow_opening::open_low(g, a, b, c, n, pass);
         return;
     }
     let mut half = [0i64; 27];
@@ -78,16 +40,16 @@ fn visit(g: &[i64; 27], a: u32, b: u32, c: u32, left: u32, pass: &mut [i64; PASS
         if narrow_pass::ended(pass) {
             return;
         }
-        let over = clear(g, k, &mut half, &mut quarter);
+        let over = narrow_children::clear(g, k, &mut half, &mut quarter);
         if over == 0 {
-            let x = cell_address::side(0, k);
-            let y = cell_address::side(1, k);
-            let z = cell_address::side(2, k);
+            let x = cell_corners::side(0, k);
+            let y = cell_corners::side(1, k);
+            let z = cell_corners::side(2, k);
             narrow_subdivision::halve(0, x, &quarter, &mut child);
             visit(&child, 2 * a + x, 2 * b + y, 2 * c + z, left - 1, pass);
             k += 1;
         } else {
-            narrow_pass::skip(over, left - 1, pass);
+            narrow_opening::skip(over, left - 1, pass);
             k += over;
         }
     }

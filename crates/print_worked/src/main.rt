@@ -34,7 +34,7 @@ fn print_signed(w: i64) {
     if w < 0 {
         io::write_all(1, b"-");
     }
-    io::print_decimal(1, slip_lines::magnitude(w));
+    io::print_decimal(1, slip_numbers::magnitude(w));
 }
 
 fn print_record(report: [i64; RECORD_WORDS]) {

@@ -1,58 +1,12 @@
 // The lines of a slip, laid over lent space from a place on; each function returns the place behind its text. An inner crate: its callers
 // see that there is room. Every text is the one that `Decimal` and `Slip` of the crate `slip_format` define.
-ghost use mathlib.Core.Path.{_≡_};
 ghost use mathlib.Core.List.{[], _∷_, map};
-ghost use Prim.Native.Nat.{suc, _+_, _≤_, _<_};
+ghost use Prim.Native.Nat.{suc, _+_, _≤_};
 ghost use lib.ListN.{length};
-ghost use lib.IntN.{natAbs};
 ghost use Rattle.slip_format.specs.Decimal.{decimal, signedDecimal};
 ghost use Rattle.slip_format.specs.Slip.{line, wordLot, refusedLine};
 ghost use Rattle.bytes_output.specs.Behind.{Laid};
 ghost use Rattle.slip_lines.specs.Spaced.{spaced};
-
-// The digit of a number below ten.
-fn digit(x: u64) -> u8
-    requires { ⌜ x < 10 ⌝ }
-    ensures { λ r. ⌜ r ≡ 48 + x ⌝ }
-{
-    48 + x as u8
-}
-
-// A number in decimal.
-pub fn decimal(out: &mut [u8], at: usize, x: u64) -> usize
-    requires { ⌜ at + length (decimal x) ≤ length (now out) ⌝ }
-    ensures { λ r. ⌜ Laid at (decimal x) (now (out .entry)) (now (out .exit)) r ⌝ }
-{
-    if x < 10 {
-        return bytes_output::byte(out, at, digit(x));
-    }
-    let next = decimal(out, at, x / 10);
-    bytes_output::byte(out, next, digit(x % 10))
-}
-
-// How far a number is from zero.
-pub fn magnitude(w: i64) -> u64
-    ensures { λ r. ⌜ r ≡ natAbs w ⌝ }
-{
-    if w < 0 {
-        return (-(w + 1)) as u64 + 1;
-    }
-    w as u64
-}
-
-// A number in decimal, with a minus before one below zero.
-pub fn signed(out: &mut [u8], at: usize, w: i64) -> usize
-    requires { ⌜ at + length (signedDecimal w) ≤ length (now out) ⌝ }
-    ensures { λ r. ⌜ Laid at (signedDecimal w) (now (out .entry)) (now (out .exit)) r ⌝ }
-{
-    let x = magnitude(w);
-    let negative = w < 0;
-    if negative {
-        let next = bytes_output::byte(out, at, b'-');
-        return decimal(out, next, x);
-    }
-    decimal(out, at, x)
-}
 
 // A word behind a space.
 pub fn word(out: &mut [u8], at: usize, xs: &[u8]) -> usize
@@ -69,7 +23,7 @@ pub fn number(out: &mut [u8], at: usize, x: u64) -> usize
     ensures { λ r. ⌜ Laid at (32 ∷ decimal x) (now (out .entry)) (now (out .exit)) r ⌝ }
 {
     let next = bytes_output::byte(out, at, b' ');
-    decimal(out, next, x)
+    slip_numbers::decimal(out, next, x)
 }
 
 // A signed number behind a space.
@@ -78,7 +32,7 @@ fn signed_number(out: &mut [u8], at: usize, w: i64) -> usize
     ensures { λ r. ⌜ Laid at (32 ∷ signedDecimal w) (now (out .entry)) (now (out .exit)) r ⌝ }
 {
     let next = bytes_output::byte(out, at, b' ');
-    signed(out, next, w)
+    slip_numbers::signed(out, next, w)
 }
 
 // The words of a record, each behind a space.
@@ -99,7 +53,7 @@ pub fn element_line(out: &mut [u8], at: usize, element: u32, name: &[u8], ws: &[
     requires { ⌜ at + length (line (decimal (suc element)) (now name ∷ map signedDecimal (now ws))) ≤ length (now out) ⌝ }
     ensures { λ r. ⌜ Laid at (line (decimal (suc element)) (now (name .entry) ∷ map signedDecimal (now (ws .entry)))) (now (out .entry)) (now (out .exit)) r ⌝ }
 {
-    let behind_number = decimal(out, at, element as u64 + 1);
+    let behind_number = slip_numbers::decimal(out, at, element as u64 + 1);
     let behind_name = word(out, behind_number, name);
     let behind_words = words(out, behind_name, ws);
     bytes_output::byte(out, behind_words, b'\n')

@@ -30,7 +30,7 @@ fn element_lines<'a>(
     let mut next = at;
     for e in 0..n {
         let element = e as u32;
-        let name = lot_groups::name_of(label, names, lengths, offsets, element);
+        let name = lot_group_names::name_of(label, names, lengths, offsets, element);
         let start = limits::RECORD_WORDS * e;
         next = slip_lines::element_line(
             out,

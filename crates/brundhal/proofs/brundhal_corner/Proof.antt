@@ -2,7 +2,7 @@
 use mathlib.Core.Path.{ap, _∙_}
 use Rattle.definitions.specs.Limits.{base}
 use Rattle.definitions.specs.Address.{Address, cornerAddress}
-use Rattle.brundhal_mesh_answers.specs.Meaning.{moveNumbers}
+use Rattle.brundhal_cell_answers.specs.Meaning.{moveNumbers}
 use borrow.Author.Needs.{needs}
 use Rattle.brundhal.proofs.brundhal_corner.Statement.{statement}
 use Rattle.brundhal.proofs.brundhal_corner.Tie as tie

@@ -1,7 +1,7 @@
 -- `inspector::points_bounds` meets its contract: the coefficients are as small as a search asks. Assumes nothing.
 use denote.Ref.{now}
 use borrow.Author.Needs.{needs}
-use Rattle.mesh_records.specs.Points.{narrow-points, points-small}
+use Rattle.mesh_element_records.specs.Points.{narrow-points, points-small}
 use Rattle.inspector.proofs.points_bounds.Statement.{statement}
 use Rattle.inspector.proofs.points_bounds.Tie as tie
 

@@ -22,8 +22,8 @@ use borrow.Fn.PlainCycle.{Measures, is, falls, and}
 use Rattle.narrow_bounds.proofs.survey.Reads as survey
 use Rattle.narrow_bounds.proofs.survey.Kinds as survey-kinds
 use Rattle.narrow_bounds.proofs.+survey.Lts-survey as survey-lts
-use Rattle.cell_address.proofs.side.Reads as side-reads
-use Rattle.narrow_search.proofs.half_at.Reads as half-at-reads
+use Rattle.cell_corners.proofs.side.Reads as side-reads
+use Rattle.narrow_children.proofs.half_at.Reads as half-at-reads
 use Rattle.narrow_subdivision.proofs.halve.Reads as halve-reads
 use Rattle.narrow_bounds.proofs.with_cell.Reads as with-cell-reads
 use Rattle.narrow_bounds.proofs.+survey.{statement}

@@ -20,13 +20,13 @@ use borrow.Fn.PlainCycle.{Measures, is, falls, and}
 use Rattle.narrow_search.proofs.visit.Reads as visit
 use Rattle.narrow_search.proofs.visit.Kinds as visit-kinds
 use Rattle.narrow_search.proofs.+visit.Lts-visit as visit-lts
-use Rattle.cell_address.proofs.side.Reads as side-reads
-use Rattle.narrow_search.proofs.clear.Reads as clear-reads
+use Rattle.cell_corners.proofs.side.Reads as side-reads
+use Rattle.narrow_children.proofs.clear.Reads as clear-reads
 use Rattle.narrow_pass.proofs.ended.Reads as ended-reads
 use Rattle.narrow_subdivision.proofs.halve.Reads as halve-reads
-use Rattle.narrow_pass.proofs.lowest.Reads as lowest-reads
-use Rattle.narrow_pass.proofs.open_low.Reads as open-low-reads
-use Rattle.narrow_pass.proofs.skip.Reads as skip-reads
+use Rattle.narrow_lowest.proofs.lowest.Reads as lowest-reads
+use Rattle.narrow_opening.proofs.open_low.Reads as open-low-reads
+use Rattle.narrow_opening.proofs.skip.Reads as skip-reads
 use Rattle.narrow_search.proofs.+visit.{statement}
 use Rattle.narrow_search.proofs.+visit.Tie.{close}
 
