@@ -11,7 +11,7 @@ use Rattle.lot_writer.specs.declared.Written.{Written}
 use Rattle.lot_writer.specs.declared.Written.the-variants.{Length, Refused}
 use Rattle.lot_writer.specs.Meaning.{writtenHeld, answerOf}
 use Rattle.lot_writer.specs.Answers.{length-file}
-use Rattle.brundhal_lot_answers.specs.Meaning.{ShortAnswer, answerNumbers, writingNumbers}
+use Rattle.brundhal_written_answers.specs.Meaning.{ShortAnswer, answerNumbers, writingNumbers}
 
 pub short-answer : (x : Runs) (room : ℕ) (answer : Written) → writtenHeld answer ≡ answerOf (writing lotFile x room) → ShortAnswer answer
 short-answer x room (Length n) e =

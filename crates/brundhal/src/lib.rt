@@ -1,5 +1,5 @@
 // The services for callers in C and Rust: the same answers as plain numbers. include/brundhal.h declares them. The structs and what they
-// say: `brundhal_cell_answers`, `brundhal_mesh_answers` and `brundhal_lot_answers`.
+// say are in the crates `brundhal_*_answers`.
 // Nothing has to be checked first. A slice passes as a pointer and a length in elements; a null or an overlapping pointer is the
 // caller's fault, and so is a length that is not that of the memory behind it.
 ghost use mathlib.Core.Path.{_≡_};
@@ -16,15 +16,18 @@ ghost use Rattle.lot_format.specs.Writing.{writing, fileOf};
 ghost use Rattle.slip_format.specs.Slip.{slipLimits, slipOf};
 ghost use Rattle.lot_writer.specs.Meaning.{runs};
 ghost use Rattle.brundhal_cell_answers.specs.Meaning.{moveNumbers, moveFields, addressHeld};
-ghost use Rattle.brundhal_mesh_answers.specs.Meaning.{inspectionNumbers, inspectionFields, boundsNumbers, boundsFields, stampTold, stampFor};
-ghost use Rattle.brundhal_lot_answers.specs.Meaning.{lotNumbers, lotFields, writingNumbers, writtenFields, nameNumbers, nameFields, nameTold};
+ghost use Rattle.brundhal_mesh_answers.specs.Meaning.{inspectionNumbers, inspectionFields, stampTold, stampFor};
+ghost use Rattle.brundhal_bounds_answers.specs.Meaning.{boundsNumbers, boundsFields};
+ghost use Rattle.brundhal_lot_answers.specs.Meaning.{lotNumbers, lotFields};
+ghost use Rattle.brundhal_written_answers.specs.Meaning.{writingNumbers, writtenFields};
+ghost use Rattle.brundhal_name_answers.specs.Meaning.{nameNumbers, nameFields, nameTold};
+use brundhal_bounds_answers::BrundhalBounds;
 use brundhal_cell_answers::BrundhalAddress;
 use brundhal_cell_answers::BrundhalMove;
 use brundhal_lot_answers::BrundhalLot;
-use brundhal_lot_answers::BrundhalName;
-use brundhal_lot_answers::BrundhalWritten;
-use brundhal_mesh_answers::BrundhalBounds;
 use brundhal_mesh_answers::BrundhalInspection;
+use brundhal_name_answers::BrundhalName;
+use brundhal_written_answers::BrundhalWritten;
 
 // Inspects a mesh: `inspector::inspect`.
 #[no_mangle]
@@ -46,7 +49,7 @@ pub extern "C" fn brundhal_bounds(points: &[i32; 24], depth: u32) -> BrundhalBou
     ensures { λ r. ⌜ boundsFields r ≡ boundsNumbers (boundsOf base (now (points .entry)) depth) ⌝ }
 {
     let p = *points;
-    brundhal_mesh_answers::pair(inspector::bounds_of(p, depth))
+    brundhal_bounds_answers::pair(inspector::bounds_of(p, depth))
 }
 
 // The stamp of an inspection's answer, 0 sound, 1 faulty or 2 open: `inspection_counts::stamp_of`. An answer with another number than 0 is that of a
@@ -117,7 +120,7 @@ pub extern "C" fn brundhal_write_lot(
     ensures { λ r. ⌜ writtenFields r ≡ writingNumbers (writing lotFile (runs (now (label .entry)) (now (nodes .entry)) (now (elements .entry)) (now (names .entry)) (now (lengths .entry)) (now (offsets .entry))) (length (now (out .entry)))) ⌝ }
     ensures { λ r. ⌜ now (out .exit) ≡ laidOver (fileOf (writing lotFile (runs (now (label .entry)) (now (nodes .entry)) (now (elements .entry)) (now (names .entry)) (now (lengths .entry)) (now (offsets .entry))) (length (now (out .entry))))) (now (out .entry)) ⌝ }
 {
-    brundhal_lot_answers::written(lot_writer::write(
+    brundhal_written_answers::written(lot_writer::write(
         label,
         nodes,
         elements,
@@ -143,7 +146,7 @@ pub extern "C" fn brundhal_name(
 {
     let number = lot_naming::refusal_of(label, names, lengths, offsets, elements, element);
     let part = lot_group_names::part_in_force(names, lengths, offsets, element);
-    brundhal_lot_answers::name(number, part, label.len())
+    brundhal_name_answers::name(number, part, label.len())
 }
 
 // Writes the slip of a lot file to the front of the lent bytes and returns its length: `slip_writer::write`.

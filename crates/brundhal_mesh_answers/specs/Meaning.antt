@@ -7,10 +7,8 @@ use borrow.Author.Tests.{eq-eqb, ne-eqb}
 use Prim.Native.Nat.{ℕ}
 use lib.Dec.{eqb}
 use lib.ListN.{getD}
-use lib.IntN.{ℤ, pos}
-use Rattle.definitions.specs.Mesh.{depthTooGreat, badCoordinates, badIndices, badSpace, Counts, Inspection, meshAccepted, meshRefused, inspectionNumber, inspectionCounts, Stamp, sound, faulty, «open», stampOf, stampGiven, Bounds, boundsNumber, boundsLow, boundsHigh}
+use Rattle.definitions.specs.Mesh.{depthTooGreat, badCoordinates, badIndices, badSpace, Counts, Inspection, meshAccepted, meshRefused, inspectionNumber, inspectionCounts, Stamp, sound, faulty, «open», stampOf, stampGiven}
 use Rattle.brundhal_mesh_answers.specs.declared.BrundhalInspection.{BrundhalInspection}
-use Rattle.brundhal_mesh_answers.specs.declared.BrundhalBounds.{BrundhalBounds}
 
 -- ---- what an answer says: the numbers of the definition's answer, and beside them the fields of the struct, each once and in the same order
 -- an inspection: its number and its counts
@@ -19,13 +17,6 @@ inspectionNumbers i = inspectionNumber i ∷ inspectionCounts i .valid ∷ inspe
 
 abbrev pub inspectionFields : BrundhalInspection → List ℕ
 inspectionFields r = r .number ∷ r .valid ∷ r .invalid ∷ r .undecided ∷ r .refused ∷ []
-
--- the bounds service: its number and both bounds
-abbrev pub boundsNumbers : Bounds → List ℤ
-boundsNumbers b = pos (boundsNumber b) ∷ boundsLow b ∷ boundsHigh b ∷ []
-
-abbrev pub boundsFields : BrundhalBounds → List ℤ
-boundsFields r = pos (r .number) ∷ r .low ∷ r .high ∷ []
 
 -- a stamp: 0 sound, 1 faulty, 2 open; 3 where there is none
 abbrev pub stampNumber : Stamp → ℕ

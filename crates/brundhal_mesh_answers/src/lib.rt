@@ -1,12 +1,11 @@
-// The answers of inspections, bounds and stamps as plain numbers for callers in C and Rust, and what their plain numbers stand for. An
+// The answers of inspections and stamps as plain numbers for callers in C and Rust, and what their plain numbers stand for. An
 // inner crate: `brundhal` exports the services. Every contract is an equation with `specs/Meaning.antt`: the fields of an answer are the numbers of the definition's.
 ghost use mathlib.Core.Path.{_≡_};
 ghost use Rattle.inspection_counts.specs.Meaning.{stampHeld};
-ghost use Rattle.inspector.specs.Meaning.{inspectionHeld, boundsHeld};
-ghost use Rattle.brundhal_mesh_answers.specs.Meaning.{inspectionNumbers, inspectionFields, boundsNumbers, boundsFields, stampNumber, stampTold, stampFor};
+ghost use Rattle.inspector.specs.Meaning.{inspectionHeld};
+ghost use Rattle.brundhal_mesh_answers.specs.Meaning.{inspectionNumbers, inspectionFields, stampNumber, stampTold, stampFor};
 use inspection_counts::Counts;
 use inspection_counts::Stamp;
-use inspector::Bounds;
 use inspector::Inspection;
 
 // The number that answers an inspection, 0 or 1 to 4, and the four counts.
@@ -17,14 +16,6 @@ pub struct BrundhalInspection {
     pub invalid: u32,
     pub undecided: u32,
     pub refused: u32,
-}
-
-// The number that answers the bounds service, 0, 1 or 6, and both bounds.
-#[repr(C)]
-pub struct BrundhalBounds {
-    pub number: u32,
-    pub low: i64,
-    pub high: i64,
 }
 
 // A refused mesh: its number, and counts 0.
@@ -56,29 +47,6 @@ pub fn numbers(answer: Inspection) -> BrundhalInspection
         Inspection::BadCoordinates => refused(2),
         Inspection::BadIndices => refused(3),
         Inspection::BadSpace => refused(4),
-    }
-}
-
-// Both bounds.
-pub fn pair(answer: Bounds) -> BrundhalBounds
-    ensures { λ r. ⌜ boundsFields r ≡ boundsNumbers (boundsHeld answer) ⌝ }
-{
-    match answer {
-        Bounds::Both(low, high) => BrundhalBounds {
-            number: 0,
-            low: low,
-            high: high,
-        },
-        Bounds::TooDeep => BrundhalBounds {
-            number: 1,
-            low: 0,
-            high: 0,
-        },
-        Bounds::OutOfRange => BrundhalBounds {
-            number: 6,
-            low: 0,
-            high: 0,
-        },
     }
 }
 

@@ -1,6 +1,6 @@
 -- `brundhal::brundhal_bounds` meets its contract: the answer of the inspector, in numbers. Assumes nothing.
 use mathlib.Core.Path.{ap, _∙_}
-use Rattle.brundhal_mesh_answers.specs.Meaning.{boundsNumbers}
+use Rattle.brundhal_bounds_answers.specs.Meaning.{boundsNumbers}
 use borrow.Author.Needs.{needs}
 use Rattle.brundhal.proofs.brundhal_bounds.Statement.{statement}
 use Rattle.brundhal.proofs.brundhal_bounds.Tie as tie

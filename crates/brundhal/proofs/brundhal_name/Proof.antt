@@ -4,7 +4,7 @@ use Rattle.lot_format.specs.Format.{lotFile}
 use Rattle.lot_format.specs.Runs.{groupsOf}
 use Rattle.lot_format.specs.Naming.{naming}
 use Rattle.lot_naming.specs.Answers.{zero-named}
-use Rattle.brundhal_lot_answers.specs.Names.{name-answered}
+use Rattle.brundhal_name_answers.specs.Names.{name-answered}
 use Rattle.brundhal.proofs.brundhal_name.Statement.{statement}
 use Rattle.brundhal.proofs.brundhal_name.Tie as tie
 

@@ -4,7 +4,7 @@ use lib.ListN.{length}
 use Rattle.lot_format.specs.Format.{lotFile}
 use Rattle.lot_format.specs.Writing.{writing}
 use Rattle.lot_writer.specs.Meaning.{runs}
-use Rattle.brundhal_lot_answers.specs.Meaning.{answerNumbers}
+use Rattle.brundhal_written_answers.specs.Meaning.{answerNumbers}
 use Rattle.brundhal.proofs.Answered.{short-answer, same-numbers}
 use borrow.Author.Needs.{needs}
 use Rattle.brundhal.proofs.brundhal_write_lot.Statement.{statement}

@@ -5,10 +5,10 @@ use Prim.Native.Nat.{ℕ}
 use native.Mathlib.Omega.{arith}
 use Rattle.lot_writer.specs.declared.Written.{Written}
 use Rattle.lot_writer.specs.Meaning.{writtenHeld}
-use Rattle.brundhal_lot_answers.specs.Meaning.{answerNumbers, ShortAnswer}
+use Rattle.brundhal_written_answers.specs.Meaning.{answerNumbers, ShortAnswer}
 use borrow.Author.Needs.{needs}
-use Rattle.brundhal_lot_answers.proofs.written.Statement.{statement}
-use Rattle.brundhal_lot_answers.proofs.written.Tie as tie
+use Rattle.brundhal_written_answers.proofs.written.Statement.{statement}
+use Rattle.brundhal_written_answers.proofs.written.Tie as tie
 
 enum-known-answer : tie.Need-enum-known-answer
 enum-known-answer c = search needs

@@ -1,8 +1,8 @@
--- `brundhal_lot_answers::name` meets its contract: by the number, and by whether the part is empty. Assumes nothing.
+-- `brundhal_name_answers::name` meets its contract: by the number, and by whether the part is empty. Assumes nothing.
 use mathlib.Core.Path.{sym}
-use Rattle.brundhal_lot_answers.specs.Names.{refusal-said, label-said, part-said}
-use Rattle.brundhal_lot_answers.proofs.name.Statement.{statement}
-use Rattle.brundhal_lot_answers.proofs.name.Tie as tie
+use Rattle.brundhal_name_answers.specs.Names.{refusal-said, label-said, part-said}
+use Rattle.brundhal_name_answers.proofs.name.Statement.{statement}
+use Rattle.brundhal_name_answers.proofs.name.Tie as tie
 
 returns : tie.Need-returns
 returns c =

@@ -10,8 +10,8 @@ use lib.ListN.{getD, length, take, drop, length-drop}
 use lib.Seq.{length-take-le, take-length}
 use Rattle.lot_format.specs.Format.{Group}
 use Rattle.lot_format.specs.Naming.{nameInForce, placeInForce, isEmpty, nameOf, groupsApart, nameTooLong, badByte, noSuchElement, Naming, named, unnamed, nameGiven, namingNumber}
-use Rattle.brundhal_lot_answers.specs.declared.BrundhalName.{BrundhalName}
-use Rattle.brundhal_lot_answers.specs.Meaning.{partNumbers, nameNumbers, nameFields, nameTold, partSaid, nameSaid}
+use Rattle.brundhal_name_answers.specs.declared.BrundhalName.{BrundhalName}
+use Rattle.brundhal_name_answers.specs.Meaning.{partNumbers, nameNumbers, nameFields, nameTold, partSaid, nameSaid}
 
 empty-by-length : (xs : List ℕ) → eqb (length xs) 0 ≡ isEmpty xs
 empty-by-length [] = refl

@@ -1,4 +1,4 @@
--- `brundhal_mesh_answers::pair` meets its contract: by the answer's cases. Assumes nothing.
+-- `brundhal_bounds_answers::pair` meets its contract: by the answer's cases. Assumes nothing.
 use mir.Syntax.{w64}
 use mir.ValLaws.{toZ-ofZ}
 use mathlib.Core.Path.{sym, ap, ap₂, _∙_}
@@ -6,10 +6,10 @@ use mathlib.Core.List.{[], _∷_}
 use lib.IntN.{ℤ, pos}
 use Rattle.inspector.specs.declared.Bounds.{Bounds}
 use Rattle.inspector.specs.Meaning.{boundsHeld}
-use Rattle.brundhal_mesh_answers.specs.Meaning.{boundsNumbers}
+use Rattle.brundhal_bounds_answers.specs.Meaning.{boundsNumbers}
 use borrow.Author.Needs.{needs}
-use Rattle.brundhal_mesh_answers.proofs.pair.Statement.{statement}
-use Rattle.brundhal_mesh_answers.proofs.pair.Tie as tie
+use Rattle.brundhal_bounds_answers.proofs.pair.Statement.{statement}
+use Rattle.brundhal_bounds_answers.proofs.pair.Tie as tie
 
 enum-known-answer : tie.Need-enum-known-answer
 enum-known-answer c = search needs

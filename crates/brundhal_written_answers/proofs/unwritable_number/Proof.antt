@@ -1,11 +1,11 @@
--- `brundhal_lot_answers::unwritable_number` meets its contract: by the cases. Assumes nothing.
+-- `brundhal_written_answers::unwritable_number` meets its contract: by the cases. Assumes nothing.
 use mathlib.Core.Path.{sym, ap}
 use Rattle.lot_writer.specs.declared.Unwritable.{Unwritable}
 use Rattle.lot_format.specs.Writing.{unwritableNumber}
 use Rattle.lot_writer.specs.Meaning.{unwritableHeld}
 use borrow.Author.Needs.{needs}
-use Rattle.brundhal_lot_answers.proofs.unwritable_number.Statement.{statement}
-use Rattle.brundhal_lot_answers.proofs.unwritable_number.Tie as tie
+use Rattle.brundhal_written_answers.proofs.unwritable_number.Statement.{statement}
+use Rattle.brundhal_written_answers.proofs.unwritable_number.Tie as tie
 
 enum-told : tie.Need-enum-told
 enum-told c = search needs
