@@ -120,8 +120,12 @@ pow-left zero h = absurd (h refl)
 pow-left (suc n) h = let p : n ≡ suc n - 1 = omega arith in pow-succ' 8 n ∙ ap (λ (m : ℕ). 8 * 8 ^ m) p
 
 module _ {A : Type 0} (words : Pass → A) where
+  -- room for more is room for fewer
+  pub held-less : (m n : ℕ) (ws : A) → n ≤ m → Held words m ws → Held words n ws
+  held-less m n ws l held = record { pass = held .pass; is = held .is; room = omega (arith, held .room) }
+
   pub one-held : (left : ℕ) (ws : A) → Held words (8 ^ left) ws → Held words 1 ws
-  one-held left ws held = let p : 8 ^ 0 ≤ 8 ^ left = pow-le-pow-right (zero-lt-suc 7) zero-le in record { pass = held .pass; is = held .is; room = omega (arith, held .room, p) }
+  one-held left ws held = held-less (8 ^ left) 1 ws (pow-le-pow-right {n = 8} (zero-lt-suc 7) (zero-le {n = left})) held
 
   module _ (s : Cell) (left : ℕ) (some : left ≡ 0 → ⊥) (ws : A) (held : Held words (8 ^ left) ws) where
     module _ (k n : ℕ) (l : k + n ≤ 8) (vs : A) (e : vs ≡ words (over s (held .pass) (left - 1) k)) where

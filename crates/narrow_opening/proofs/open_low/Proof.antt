@@ -12,12 +12,13 @@ use Rattle.verdict_theory.specs.Search.{Found}
 use Rattle.search_theory.specs.Meaning.{cellOf}
 use Rattle.narrow_pass.specs.Meaning.{layout, passWords, foundWords}
 use Rattle.search_theory.specs.Lowest.{atCell, withCoefficient, opened-corner, opened-coefficient}
+use Rattle.search_theory.specs.Visit.{held-less}
 use Rattle.narrow_opening.proofs.Words.{nothing-word, stays-word}
 use Rattle.narrow_opening.proofs.open_low.Statement.{statement}
 use Rattle.narrow_opening.proofs.open_low.Tie as tie
 
 add-opened-requires : tie.Need-add-opened-requires
-add-opened-requires c κs = search needs
+add-opened-requires c κs = held-less passWords 1 _ _ (omega arith) (c .before .pre .0 .1)
 
 cast-k : tie.Need-cast-k
 cast-k c = search needs
