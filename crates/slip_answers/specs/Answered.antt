@@ -4,14 +4,20 @@ use mathlib.Core.Bool.{Bool, true, false}
 use mathlib.Core.List.{List}
 use Prim.Native.Nat.{ℕ, _<_, _≤_}
 use borrow.Author.Tests.{eq-eqb, ne-eqb, le-leb, lt-leb}
-use lib.Dec.{leb}
+use lib.Dec.{eqb, leb}
 use lib.ListN.{getD}
 use Rattle.definitions.specs.Limits.{base}
 use Rattle.lot_format.specs.Runs.{Runs, lotFrom}
 use Rattle.lot_format.specs.Reading.{unreadableNumber, tooManyElements}
 use Rattle.lot_reader.specs.Promise.{asRead}
 use Rattle.slip_format.specs.Slip.{slipLimits, refusedLine, meshSlip, slipIf}
-use Rattle.slip_answers.specs.Counted.{answeredSlip}
+
+-- the slip by the answer: its number, and how many elements it counts
+unfoldable pub answeredSlip : Runs → List ℕ → List ℕ
+answeredSlip now answer = elim (eqb (getD answer 0 0) 0) [
+  | false ↦ refusedLine (getD answer 0 0)
+  | true ↦ slipIf (leb (getD answer 2 0) (slipLimits .elements)) (meshSlip base (slipLimits .depth) (lotFrom (asRead now answer)))
+]
 
 module _ (now : Runs) (answer : List ℕ) where
   abbrev pub countedBy : Bool → List ℕ

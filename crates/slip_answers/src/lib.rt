@@ -1,49 +1,13 @@
-// The slip by the answer of the reader, whose lent runs are handed in, laid over lent space from a place on; each function returns the place
+// The slip by the answer of the reader, whose lent runs are handed in, laid over lent space from a place on; it returns the place
 // behind it. An inner crate: its callers see that there is room, and that the words which the answer counts are there.
 ghost use mathlib.Core.Path.{_≡_};
 ghost use Prim.Native.Nat.{_+_, _*_, _≤_};
-ghost use lib.ListN.{getD, length};
-ghost use Rattle.definitions.specs.Limits.{recordWords, base};
-ghost use Rattle.slip_format.specs.Slip.{slipLimits, meshSlip};
-ghost use Rattle.lot_format.specs.Runs.{lotFrom};
-ghost use Rattle.lot_reader.specs.Promise.{asRead};
+ghost use lib.ListN.{length};
+ghost use Rattle.definitions.specs.Limits.{recordWords};
+ghost use Rattle.slip_format.specs.Slip.{slipLimits};
 ghost use Rattle.bytes_output.specs.Behind.{Laid};
-ghost use Rattle.slip_answers.specs.Counted.{lent, Counted, answeredSlip};
-
-// The slip of a lot that was read into lent runs, by the five numbers of the reading.
-fn read_slip<'a>(
-    out: &mut [u8],
-    at: usize,
-    label: &'a [u8],
-    nodes: &[i32],
-    elements: &[u32],
-    names: &'a [u8],
-    lengths: &[u32],
-    offsets: &[u32],
-    report: &mut [i64],
-    answer: [u32; 5],
-) -> usize
-    requires { ⌜ Counted (lent (now label) (now nodes) (now elements) (now names) (now lengths) (now offsets)) answer × (length (now report) ≡ recordWords * slipLimits .elements) × (getD answer 2 0 ≤ slipLimits .elements) ⌝ }
-    requires { ⌜ at + length (meshSlip base (slipLimits .depth) (lotFrom (asRead (lent (now label) (now nodes) (now elements) (now names) (now lengths) (now offsets)) answer))) ≤ length (now out) ⌝ }
-    ensures { λ r. ⌜ Laid at (meshSlip base (slipLimits .depth) (lotFrom (asRead (lent (now (label .entry)) (now (nodes .entry)) (now (elements .entry)) (now (names .entry)) (now (lengths .entry)) (now (offsets .entry))) answer))) (now (out .entry)) (now (out .exit)) r ⌝ }
-{
-    let coordinates = 3 * answer[1] as usize;
-    let indices = 8 * answer[2] as usize;
-    let words = limits::RECORD_WORDS * answer[2] as usize;
-    let groups = answer[3] as usize;
-    let bytes = answer[4] as usize;
-    slip_parts::mesh_slip(
-        out,
-        at,
-        label,
-        &nodes[..coordinates],
-        &elements[..indices],
-        &names[..bytes],
-        &lengths[..groups],
-        &offsets[..groups],
-        &mut report[..words],
-    )
-}
+ghost use Rattle.slip_meshes.specs.Counted.{lent, Counted};
+ghost use Rattle.slip_answers.specs.Answered.{answeredSlip};
 
 // The slip by the answer of the reading, and by how many elements it counts.
 pub fn answered_slip<'a>(
@@ -70,7 +34,7 @@ pub fn answered_slip<'a>(
     if limits::SLIP_ELEMENTS < count {
         return slip_lines::refused_line(out, at, 26);
     }
-    read_slip(
+    slip_meshes::read_slip(
         out,
         at,
         label,

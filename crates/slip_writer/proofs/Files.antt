@@ -17,8 +17,8 @@ use Rattle.lot_format.specs.Numbered.{not-zero}
 use Rattle.lot_roundtrip_theory.specs.Ample.{ample, ample-room}
 use Rattle.lot_reader.specs.Promise.{readOver, Read, read-runs}
 use Rattle.slip_format.specs.Slip.{slipLimits, refusedLine, meshSlip, slipIf, lotSlip, slipOf}
-use Rattle.slip_answers.specs.Counted.{Counted, answeredSlip}
-use Rattle.slip_answers.specs.Answered.{refused-by, counted-by}
+use Rattle.slip_meshes.specs.Counted.{Counted}
+use Rattle.slip_answers.specs.Answered.{answeredSlip, refused-by, counted-by}
 
 -- lent runs that are large enough for any lot
 pub record Ample (lent : Runs) : Type 0 where

@@ -7,7 +7,7 @@ use borrow.Author.Needs.{needs}
 use lib.ListN.{length}
 use Rattle.lot_format.specs.Runs.{Runs}
 use Rattle.bytes_output.specs.Behind.{laid-as}
-use Rattle.slip_answers.specs.Counted.{lent}
+use Rattle.slip_meshes.specs.Counted.{lent}
 use Rattle.slip_answers.specs.Answered.{refused-by, many-by, few-by}
 use Rattle.slip_answers.proofs.answered_slip.Statement.{statement}
 use Rattle.slip_answers.proofs.answered_slip.Tie as tie

@@ -15,7 +15,7 @@ use Rattle.lot_reader.specs.Promise.{Read}
 use Rattle.slip_format.specs.Slip.{slipLimits, slipOf}
 use Rattle.bytes_output.specs.Behind.{laid-as}
 use Rattle.slip_room_theory.specs.Promise.{slip-room}
-use Rattle.slip_answers.specs.Counted.{answeredSlip}
+use Rattle.slip_answers.specs.Answered.{answeredSlip}
 use Rattle.slip_writer.proofs.Files.{answered-slip, read-counted}
 use Rattle.slip_writer.proofs.file_slip.Statement.{statement}
 use Rattle.slip_writer.proofs.file_slip.Tie as tie

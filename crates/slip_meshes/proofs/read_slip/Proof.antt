@@ -7,8 +7,8 @@ use lib.ListN.{getD}
 use lib.Seq.{length-take-le}
 use Rattle.definitions.specs.Limits.{recordWords}
 use borrow.Author.Needs.{needs}
-use Rattle.slip_answers.proofs.read_slip.Statement.{statement}
-use Rattle.slip_answers.proofs.read_slip.Tie as tie
+use Rattle.slip_meshes.proofs.read_slip.Statement.{statement}
+use Rattle.slip_meshes.proofs.read_slip.Tie as tie
 
 -- the five numbers of the reading
 abbrev answerIn : tie.Start → List ℕ

@@ -13,9 +13,9 @@ use Rattle.inspection_counts.specs.Meaning.{countsHeld}
 use Rattle.inspector.specs.declared.Inspection.{Inspection as HeldInspection}
 use Rattle.inspector.specs.Meaning.{inspectionHeld}
 use Rattle.bytes_output.specs.Behind.{laid-as}
-use Rattle.slip_parts.proofs.Meshes.{slip-refused, slip-inspected}
-use Rattle.slip_parts.proofs.mesh_slip.Statement.{statement}
-use Rattle.slip_parts.proofs.mesh_slip.Tie as tie
+use Rattle.slip_meshes.proofs.Meshes.{slip-refused, slip-inspected}
+use Rattle.slip_meshes.proofs.mesh_slip.Statement.{statement}
+use Rattle.slip_meshes.proofs.mesh_slip.Tie as tie
 
 -- the lot that is handed in
 abbrev lotIn : tie.Start → Lot
