@@ -1,5 +1,5 @@
 // Handing out what one entry of a lot file holds, to lent space that is large enough for it. An inner crate: `lot_hand_out` meets what each
-// `requires` asks. Every answer is an equation with `Numbers` of the crate `lot_format`.
+// `requires` asks. Every answer is an equation with `Numbers` and `Reading` of the crate `lot_format`.
 ghost use mathlib.Core.Path.{_≡_};
 ghost use mathlib.Core.List.{_∷_, []};
 ghost use Prim.Native.Nat.{_+_, _*_, _≤_, _<_};

@@ -1,4 +1,4 @@
-// The entries of a lot file, laid over lent space from a place on; each function returns the place behind what it wrote. An inner crate:
+// An entry of a lot file, laid over lent space from a place on; each function returns the place behind what it wrote. An inner crate:
 // its callers see that there is room. Every text is one of `Format` of the crate `lot_format`.
 ghost use mathlib.Core.Path.{_≡_};
 ghost use mathlib.Core.List.{[], _++_};

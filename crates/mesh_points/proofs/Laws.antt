@@ -2,20 +2,24 @@
 use mathlib.Core.Path.{_≡_, refl, sym, _∙_, subst}
 use mathlib.Core.Bool.{_&&_, and-true}
 use mathlib.Core.List.{List}
-use Prim.Native.Nat.{ℕ, _+_, _<_}
+use Prim.Native.Nat.{ℕ, suc, _+_, _-_, _<_}
 use native.Mathlib.Omega.{arith}
 use native.Mathlib.Decide.{ℕ-discrete}
 use lib.Dec.{leb, leb·suc-suc}
 use lib.ListN.{getD, length, set, length-set}
 use lib.Seq.{getD-set-same, getD-set-other}
-use lib.IntN.{ℤ, pos, negsuc}
+use lib.IntN.{ℤ, pos, negsuc, natAbs}
 use lib.Signed.{leZ}
 use Rattle.definitions.specs.Limits.{base}
 use Rattle.definitions.specs.Mesh.{usable}
 
-pub usable-tests : (x : ℤ) → (leZ (negsuc 4095) x && leZ x (pos 4096)) ≡ usable base x
-usable-tests (pos n) = refl
-usable-tests (negsuc n) = and-true (leb n 4095) ∙ sym (leb·suc-suc n 4095)
+-- a number lies between −1 − n and 1 + n
+within-tests : (n : ℕ) (x : ℤ) → (leZ (negsuc n) x && leZ x (pos (suc n))) ≡ leb (natAbs x) (suc n)
+within-tests n (pos k) = refl
+within-tests n (negsuc k) = and-true (leb k n) ∙ sym (leb·suc-suc k n)
+
+pub usable-tests : (x : ℤ) → (leZ (negsuc (base .range - 1)) x && leZ x (pos (base .range))) ≡ usable base x
+usable-tests x = within-tests (base .range - 1) x
 
 -- the first k of p are those of q; the store of the next one
 fill-next : (p q : List ℤ) (k : ℕ) (v : ℤ) → k < length p → ((j : ℕ) → j < k → getD p j (pos 0) ≡ getD q j (pos 0)) → v ≡ getD q k (pos 0)

@@ -1,4 +1,4 @@
-// The lowest number of a cell's low coefficients, with numbers of one word. An inner crate, for `narrow_search`.
+// The lowest number of a cell's low coefficients, with numbers of one word. An inner crate, for `narrow_children` and `narrow_search`.
 ghost use mathlib.Core.Path.{_≡_};
 ghost use Prim.Native.Nat.{_≤_};
 ghost use Rattle.search_theory.specs.Meaning.{lowest as lowestOf};

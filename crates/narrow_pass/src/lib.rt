@@ -1,5 +1,5 @@
 // A pass of the search: what it found and how many cells it opened, in seven words that are lent and changed where they lie. An inner
-// crate, for `narrow_search`.
+// crate, for `narrow_opening` and `narrow_search`.
 ghost use mathlib.Core.Path.{_≡_};
 ghost use Rattle.definitions.specs.Record.{verdictWords};
 ghost use Rattle.verdict_theory.specs.Search.{Pass, ended as hasEnded};

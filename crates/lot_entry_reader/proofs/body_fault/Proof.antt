@@ -1,6 +1,7 @@
 -- `body_fault` meets its contract: by the cases of the mark, and each branch by its test. Assumes nothing.
 use borrow.Author.Needs.{needs}
 use borrow.Author.Tests.{lt-ltb, le-ltb}
+use Rattle.lot_format.specs.Format.{lotFile}
 use Rattle.lot_format.specs.Reading.{bodyFault}
 use Rattle.lot_entry_reader.proofs.body_fault.Statement.{statement}
 use Rattle.lot_entry_reader.proofs.body_fault.Tie as tie
@@ -33,10 +34,10 @@ returns-2 : tie.Need-returns-2
 returns-2 c = search needs
 
 returns-3 : tie.Need-returns-3
-returns-3 c = rw (c .before .enum-told3 .given .1, lt-ltb _ 1000 (c .if1 .taken), bodyFault)
+returns-3 c = rw (c .before .enum-told3 .given .1, lt-ltb _ (lotFile .elements) (c .if1 .taken), bodyFault)
 
 returns-4 : tie.Need-returns-4
-returns-4 c = rw (c .before .enum-told3 .given .1, le-ltb _ 1000 (c .if1 .left), bodyFault)
+returns-4 c = rw (c .before .enum-told3 .given .1, le-ltb _ (lotFile .elements) (c .if1 .left), bodyFault)
 
 returns-5 : tie.Need-returns-5
 returns-5 c = search needs

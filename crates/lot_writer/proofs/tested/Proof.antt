@@ -85,7 +85,7 @@ counted : (c : tie.After-file-length) → c .file-length .result ≡ capped (siz
 counted c = c .file-length .ensures ∙ ap capped (sym (long (c .before .before .before .before .before)))
 
 after7 : (c : tie.Else7) → Passed 7 (start7 c)
-after7 c = passes (start7 c) 6 (omega arith) (after6 (c .before .before)) (le-leb (size (start7 c)) 65536 (omega (arith, counted (c .before), c .if7 .left)))
+after7 c = passes (start7 c) 6 (omega arith) (after6 (c .before .before)) (le-leb (size (start7 c)) (lotFile .bytes) (omega (arith, counted (c .before), c .if7 .left)))
 
 -- ---- the needs
 returns : tie.Need-returns
@@ -119,7 +119,7 @@ file-length-requires : tie.Need-file-length-requires
 file-length-requires c κs = search needs
 
 returns-7 : tie.Need-returns-7
-returns-7 c = fails (start6 (c .before .before)) 6 (omega arith) (after6 (c .before .before)) (lt-leb (size (start6 (c .before .before))) 65536 (omega (arith, counted (c .before), c .if7 .taken)))
+returns-7 c = fails (start6 (c .before .before)) 6 (omega arith) (after6 (c .before .before)) (lt-leb (size (start6 (c .before .before))) (lotFile .bytes) (omega (arith, counted (c .before), c .if7 .taken)))
 
 returns-8 : tie.Need-returns-8
 returns-8 c = fails (start7 (c .before)) 7 (omega arith) (after7 (c .before)) (lt-leb (size (start7 (c .before))) (start7 (c .before) .args .room) (omega (arith, counted (c .before .before), c .before .if7 .left, c .if8 .taken)))
