@@ -1,4 +1,5 @@
 pub mod Limits
+pub mod TwoWords
 pub mod Jacobian
 pub mod Coefficients
 pub mod Subdivision

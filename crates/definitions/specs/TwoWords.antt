@@ -1,0 +1,28 @@
+-- Document 02, No. 8: numbers of two words, "as two's complement", and the representative of a whole number at any width.
+use mathlib.Core.Bool.{Bool, _&&_}
+use Prim.Native.Nat.{ℕ, suc, _-_, _%_, _^_}
+use lib.IntN.{ℤ, pos, negsuc, _+ℤ_, _*ℤ_}
+use lib.Signed.{leZ}
+use mir.Syntax.{Width, w64}
+use mir.Val.{toZ, bits}
+
+-- what stands at each place of the high word: "low 64 bits and then high"
+abbrev pub base : ℕ
+base = 2 ^ 64
+
+-- the number of two words: the high one, as a signed number, times 2^64, and the low one
+unfoldable pub value : ℕ → ℕ → ℤ
+value low high = toZ w64 high *ℤ pos base +ℤ pos low
+
+-- what a whole number leaves, divided by m: 0 to m − 1
+abbrev pub remainder : ℕ → ℤ → ℕ
+remainder m (pos n) = n % m
+remainder m (negsuc n) = m - suc (n % m)
+
+-- the representative of a whole number modulo 2^w: the one of −2^(w−1) to 2^(w−1) − 1 that leaves the same
+unfoldable pub wrapped : Width → ℤ → ℤ
+wrapped w z = toZ w (remainder (2 ^ bits w) z)
+
+-- whether one word, signed, holds a whole number: −2^63 to 2^63 − 1
+abbrev pub inOneWord : ℤ → Bool
+inOneWord z = leZ (negsuc (2 ^ 63 - 1)) z && leZ z (pos (2 ^ 63 - 1))

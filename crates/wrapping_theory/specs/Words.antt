@@ -1,0 +1,137 @@
+-- Numbers of two words: the value by the 128 bits, what an operation on the bits does to the value, and that the value determines the words.
+use mathlib.Core.Path.{_≡_, refl, sym, _∙_, ap, subst}
+use mathlib.Core.Bool.{Bool, true, false}
+use mathlib.Core.List.{[], _∷_}
+use Prim.Native.Nat.{ℕ, zero, suc, _+_, _*_, _-_, _/_, _%_, _^_, _<_, _≤_}
+use native.Mathlib.Nat.{le-trans, lt-of-lt-of-le, le-add-right, mul-le-mul-right, add-mul}
+use native.Mathlib.Omega.{arith}
+use borrow.Author.Tests.{ltb-true, ltb-false}
+use lib.Arith.{digits-lt, digits-div, digits-mod}
+use lib.Dec.{ltb, lit<}
+use lib.IntN.{ℤ, pos, negsuc, negℤ, subℕ, _+ℤ_, _-ℤ_, _*ℤ_}
+use mir.Syntax.{w64, w128}
+use mir.Val.{Fits, SFits, toZ, ofZ}
+use mir.ValLaws.{toZ-pos, toZ-neg, toZ-fits, ofZ-toZ}
+use Rattle.foundation.specs.Magnitude.{sub-cases}
+use Rattle.foundation.specs.Polynomial.{var, add, neg, solve}
+use Rattle.foundation.specs.Words.{args, signedLimit}
+use Rattle.definitions.specs.TwoWords.{base, value, wrapped}
+use Rattle.wrapping_theory.specs.Congruence.{Congruent, equal, itself, turned, chained, sum, difference, product, divided}
+use Rattle.wrapping_theory.specs.Wrapping.{bits-congruent, is-wrapped}
+
+-- two words as one number of 128 bits, without a sign
+abbrev pub together : ℕ → ℕ → ℕ
+together low high = high * base + low
+
+-- both are words
+pub record AreWords (low high : ℕ) : Type 0 where
+  pub low-word : low < 2 ^ 64
+  pub high-word : high < 2 ^ 64
+
+-- the sign of a number is that of its high word
+pub data Sign (high : ℕ) : Type 0 where
+  plus : high < signedLimit → Sign high
+  minus : signedLimit ≤ high → Sign high
+
+pub sign : (high : ℕ) → Sign high
+sign high = go (ltb high signedLimit) refl
+  where
+    go : (b : Bool) → ltb high signedLimit ≡ b → Sign high
+    go true e = plus (ltb-true high signedLimit e)
+    go false e = minus (ltb-false high signedLimit e)
+
+-- ---- the value by the bits
+mirrored : (m n : ℕ) → n < m → m - suc (m - suc n) ≡ n
+mirrored m n h = omega (arith, h)
+
+upper : (half m n : ℕ) → m ≡ half + half → half ≤ n → n < m → m - suc n < half
+upper half m n e h k = omega (arith, e, h, k)
+
+pub value-above : (low high : ℕ) → high < signedLimit → value low high ≡ pos (together low high)
+unfolding value
+value-above low high h = ap (λ (z : ℤ). z *ℤ pos base +ℤ pos low) (toZ-pos w64 high h)
+
+module _ (low high : ℕ) (w : AreWords low high) where
+  pub together-below : together low high < 2 ^ 128
+  together-below = digits-lt (w .high-word) (w .low-word)
+
+  pub value-below : signedLimit ≤ high → value low high ≡ negsuc (2 ^ 128 - suc (together low high))
+  unfolding value
+  value-below h = let k : ℕ = 2 ^ 64 - suc high in let f : suc k + high ≡ 2 ^ 64 = omega (arith, w .high-word) in
+      ap (λ (z : ℤ). z *ℤ pos base +ℤ pos low) (ap (toZ w64) (sym (mirrored (2 ^ 64) high (w .high-word))) ∙ toZ-neg w64 k (upper signedLimit (2 ^ 64) high refl h (w .high-word)))
+      ∙ below k f
+    where
+      whole : (k : ℕ) → k + high ≡ 2 ^ 64 → k * base + high * base ≡ base * base
+      whole k e = sym (add-mul k high base) ∙ ap (λ (n : ℕ). n * base) e
+
+      rest : (m a b l n : ℕ) → a + b ≡ m → l + suc n ≡ a → n ≡ m - suc (b + l)
+      rest m a b l n e f = omega (arith, e, f)
+
+      never : (b a l n : ℕ) → b ≤ a → l < b → a + n ≡ l → ⊥
+      never b a l n h k e = omega (arith, h, k, e)
+
+      negated : (n : ℕ) → 0 < n → negℤ (pos n) +ℤ pos low ≡ subℕ low n
+      negated zero h = absurd (omega (arith, h))
+      negated (suc n) h = refl
+
+      one-at-least : (k : ℕ) → base ≤ suc k * base
+      one-at-least k = mul-le-mul-right {m = 1} {n = suc k} base (omega arith)
+
+      below : (k : ℕ) → suc k + high ≡ 2 ^ 64 → negsuc k *ℤ pos base +ℤ pos low ≡ negsuc (2 ^ 128 - suc (together low high))
+      below k e = negated (suc k * base) (lt-of-lt-of-le (lit< {n = base} tt) (one-at-least k))
+          ∙ sub-cases low (suc k * base) (λ z. z ≡ negsuc (2 ^ 128 - suc (together low high)))
+          (λ n p. ap negsuc (rest (2 ^ 128) (suc k * base) (high * base) low n (whole (suc k) e) p))
+          (λ n p. absurd (never base (suc k * base) low n (one-at-least k) (w .low-word) p))
+
+  together-fits : Fits w128 (together low high)
+  together-fits = record { fits = together-below }
+
+  -- the number is what its 128 bits stand for
+  pub value-bits : value low high ≡ toZ w128 (together low high)
+  value-bits = go (sign high)
+    where
+      go : Sign high → value low high ≡ toZ w128 (together low high)
+      go (plus h) = value-above low high h ∙ sym (toZ-pos w128 (together low high) (digits-lt h (w .low-word)))
+      go (minus h) = value-below h ∙ sym (ap (toZ w128) (sym (mirrored (2 ^ 128) (together low high) together-below))
+          ∙ toZ-neg w128 (2 ^ 128 - suc (together low high)) (upper (2 ^ 127) (2 ^ 128) (together low high) refl (le-trans (mul-le-mul-right base h) (le-add-right (high * base) low)) together-below))
+
+  pub value-fits : SFits w128 (value low high)
+  value-fits = subst (SFits w128) (sym value-bits) (toZ-fits w128 (together low high) together-fits)
+
+  pub value-congruent : Congruent (2 ^ 128) (value low high) (pos (together low high))
+  value-congruent = chained (equal value-bits) (bits-congruent w128 (together low high) together-fits)
+
+  -- a result is the representative of z, if its bits differ from z by a multiple of 2^128
+  pub result-wrapped : {z : ℤ} → Congruent (2 ^ 128) (pos (together low high)) z → value low high ≡ wrapped w128 z
+  result-wrapped c = is-wrapped w128 value-fits (chained value-congruent c)
+
+-- ---- the value determines the words
+module _ (low high low′ high′ : ℕ) (v : AreWords low high) (w : AreWords low′ high′) (e : value low high ≡ value low′ high′) where
+  same-bits : together low high ≡ together low′ high′
+  same-bits = sym (ofZ-toZ w128 (together low high) (together-fits low high v)) ∙ ap (ofZ w128) (sym (value-bits low high v) ∙ e ∙ value-bits low′ high′ w) ∙ ofZ-toZ w128 (together low′ high′) (together-fits low′ high′ w)
+
+  pub same-low : low ≡ low′
+  same-low = sym (digits-mod high (v .low-word)) ∙ ap (λ (n : ℕ). n % base) same-bits ∙ digits-mod high′ (w .low-word)
+
+  pub same-high : high ≡ high′
+  same-high = sym (digits-div high (v .low-word)) ∙ ap (λ (n : ℕ). n / base) same-bits ∙ digits-div high′ (w .low-word)
+
+-- ---- operations, by their bits
+left-of : (m n : ℕ) → m ≡ n % 2 ^ 128 → Congruent (2 ^ 128) (pos m) (pos n)
+left-of m n e = chained (equal (ap pos e)) (divided (2 ^ 128) n)
+
+module _ {a b c d l h : ℕ} (x : AreWords a b) (y : AreWords c d) (r : AreWords l h) where
+  pub sum-wrapped : together l h ≡ (together a b + together c d) % 2 ^ 128 → value l h ≡ wrapped w128 (value a b +ℤ value c d)
+  sum-wrapped e = result-wrapped l h r (chained (left-of (together l h) (together a b + together c d) e) (turned (sum (value-congruent a b x) (value-congruent c d y))))
+
+  pub product-wrapped : together l h ≡ (together a b * together c d) % 2 ^ 128 → value l h ≡ wrapped w128 (value a b *ℤ value c d)
+  product-wrapped e = result-wrapped l h r (chained (left-of (together l h) (together a b * together c d) e) (turned (product (value-congruent a b x) (value-congruent c d y))))
+
+  -- a difference is what the second number is added to
+  pub difference-wrapped : together a b ≡ (together l h + together c d) % 2 ^ 128 → value l h ≡ wrapped w128 (value a b -ℤ value c d)
+  difference-wrapped e = result-wrapped l h r (chained
+      (equal (solve (args (pos (together l h) ∷ pos (together c d) ∷ [])) (var 0) (add (add (var 0) (var 1)) (neg (var 1))) tt))
+      (difference (chained (turned (left-of (together a b) (together l h + together c d) e)) (turned (value-congruent a b x))) (turned (value-congruent c d y))))
+
+pub multiple-wrapped : (k : ℕ) {a b l h : ℕ} → AreWords a b → AreWords l h → together l h ≡ (k * together a b) % 2 ^ 128 → value l h ≡ wrapped w128 (pos k *ℤ value a b)
+multiple-wrapped k {a} {b} {l} {h} x r e = result-wrapped l h r (chained (left-of (together l h) (k * together a b) e) (turned (product (itself (pos k)) (value-congruent a b x))))
