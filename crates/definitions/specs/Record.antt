@@ -12,8 +12,11 @@ abbrev pub valueWords : ℤ → List ℤ
 valueWords z = z ∷ []
 
 -- a record: six words, those of a value, and the number of cubes opened
+abbrev pub wordsBy : (ℤ → List ℤ) → ℕ → ℕ → ℕ → ℕ → ℕ → ℕ → ℤ → ℕ → List ℤ
+wordsBy held w0 w1 w2 w3 w4 w5 value opened = pos w0 ∷ pos w1 ∷ pos w2 ∷ pos w3 ∷ pos w4 ∷ pos w5 ∷ (held value ++ (pos opened ∷ []))
+
 abbrev pub words : ℕ → ℕ → ℕ → ℕ → ℕ → ℕ → ℤ → ℕ → List ℤ
-words w0 w1 w2 w3 w4 w5 value opened = pos w0 ∷ pos w1 ∷ pos w2 ∷ pos w3 ∷ pos w4 ∷ pos w5 ∷ (valueWords value ++ (pos opened ∷ []))
+words = wordsBy valueWords
 
 abbrev pub kind : Verdict → ℕ
 kind (valid l) = 0
@@ -21,10 +24,13 @@ kind (invalid l f) = 1
 kind (undecided l f) = 2
 
 -- the columns "valid", "invalid" and "undecided", with the number of cubes opened
+abbrev pub verdictWordsBy : (ℤ → List ℤ) → Verdict → ℕ → List ℤ
+verdictWordsBy held (valid l) n = wordsBy held 0 l 0 0 0 0 (pos 0) n
+verdictWordsBy held (invalid l f) n = wordsBy held 1 l (f .a) (f .b) (f .c) (f .number) (f .value) n
+verdictWordsBy held (undecided l f) n = wordsBy held 2 l (f .a) (f .b) (f .c) (f .number) (f .value) n
+
 abbrev pub verdictWords : Verdict → ℕ → List ℤ
-verdictWords (valid l) n = words 0 l 0 0 0 0 (pos 0) n
-verdictWords (invalid l f) n = words 1 l (f .a) (f .b) (f .c) (f .number) (f .value) n
-verdictWords (undecided l f) n = words 2 l (f .a) (f .b) (f .c) (f .number) (f .value) n
+verdictWords = verdictWordsBy valueWords
 
 -- "Their record at a depth follows from the verdict by this table."
 unfoldable pub recordOf : List ℤ → ℕ → List ℤ

@@ -1,6 +1,7 @@
 -- Document 02, No. 8: numbers of two words, "as two's complement", and the representative of a whole number at any width.
 use mathlib.Core.Bool.{Bool, _&&_}
-use Prim.Native.Nat.{ℕ, suc, _-_, _%_, _^_}
+use mathlib.Core.List.{List, [], _∷_}
+use Prim.Native.Nat.{ℕ, suc, _*_, _-_, _/_, _%_, _^_}
 use lib.IntN.{ℤ, pos, negsuc, _+ℤ_, _*ℤ_}
 use lib.Signed.{leZ}
 use mir.Syntax.{Width, w64}
@@ -22,6 +23,17 @@ remainder m (negsuc n) = m - suc (n % m)
 -- the representative of a whole number modulo 2^w: the one of −2^(w−1) to 2^(w−1) − 1 that leaves the same
 unfoldable pub wrapped : Width → ℤ → ℤ
 wrapped w z = toZ w (remainder (2 ^ bits w) z)
+
+-- and back: the words of a whole number, low and high
+abbrev pub lowWord : ℤ → ℕ
+lowWord z = remainder (base * base) z % base
+
+abbrev pub highWord : ℤ → ℕ
+highWord z = remainder (base * base) z / base
+
+-- both as a record has them, each as a signed number
+abbrev pub twoWords : ℤ → List ℤ
+twoWords z = toZ w64 (lowWord z) ∷ toZ w64 (highWord z) ∷ []
 
 -- whether one word, signed, holds a whole number: −2^63 to 2^63 − 1
 abbrev pub inOneWord : ℤ → Bool

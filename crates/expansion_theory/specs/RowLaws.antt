@@ -9,7 +9,7 @@ use lib.ListN.{getD, set, length, length-set}
 use lib.Seq.{ext-getD, getD-set-same, getD-set-other}
 use lib.IntN.{ℤ, pos}
 use Rattle.foundation.specs.Lists.{allBelow, equal-below}
-use Rattle.foundation.specs.Polynomial.{integers}
+use Rattle.foundation.specs.Polynomial.{integers, var, con, add, mul, solve}
 use Rattle.foundation.specs.Words.{args}
 use Rattle.definitions.specs.Coefficients.{numbering, numbered, place, at}
 use Rattle.definitions.specs.Subdivision.{lower, upper, cutRow, cut, halve}
@@ -161,3 +161,28 @@ row-held {d} {h} {j} {c = c} {xs} r p e = let (s, a) = agrees-row d (halve d h c
 -- after the last row: the direction d is n
 pub all-held : {b d h : ℕ} (n : ℕ) {c xs : List ℤ} → n < 3 → d ≡ n → Holds b n h 9 c xs → xs ≡ halve d h c
 all-held {d} {h} n {c} {xs} l e p = agrees-all n (halve n h c) l xs (p .sized) (length-halve n h c) (p .agrees) ∙ ap (λ (m : ℕ). halve m h c) (sym e)
+
+-- ---- the upper half of a row is the lower half of the row turned round, turned round
+module _ (p q r : ℤ) where
+  abbrev row : ℕ → ℤ
+  row = args (p ∷ q ∷ r ∷ [])
+
+  abbrev turned : ℕ → ℤ
+  turned = args (r ∷ q ∷ p ∷ [])
+
+  pub turned-start : cutRow integers 0 turned 2 ≡ cutRow integers 1 row 0
+  turned-start = solve row (add (add (var 2) (mul (con (pos 2)) (var 1))) (var 0)) (add (add (var 0) (mul (con (pos 2)) (var 1))) (var 2)) tt
+
+  pub turned-middle : cutRow integers 0 turned 1 ≡ cutRow integers 1 row 1
+  turned-middle = solve row (add (mul (con (pos 2)) (var 2)) (mul (con (pos 2)) (var 1))) (add (mul (con (pos 2)) (var 1)) (mul (con (pos 2)) (var 2))) tt
+
+  pub turned-end : cutRow integers 0 turned 0 ≡ cutRow integers 1 row 2
+  turned-end = refl
+
+-- every side but 0 is the upper one
+pub upper-side : (d h : ℕ) (c : List ℤ) → (h ≡ 0 → ⊥) → halve d 1 c ≡ halve d h c
+unfolding halve
+upper-side d zero c ne = absurd (ne refl)
+upper-side zero (suc h) c ne = refl
+upper-side (suc zero) (suc h) c ne = refl
+upper-side (suc (suc d)) (suc h) c ne = refl

@@ -9,8 +9,7 @@ use lib.IntN.{ℤ}
 use Rattle.foundation.specs.Lists.{up}
 use Rattle.definitions.specs.Coefficients.{coefficients}
 use Rattle.definitions.specs.Subdivision.{Cell, whole}
-use Rattle.definitions.specs.Verdict.{Verdict, valid, invalid, undecided}
-use Rattle.definitions.specs.Record.{verdictWords, recordOf}
+use Rattle.definitions.specs.Verdict.{Verdict, valid, invalid, undecided, verdict, opened}
 use Rattle.verdict_theory.specs.Search.{Found, nothing, coefficient, point, Pass, pass, visit}
 use Rattle.verdict_theory.specs.Opened.{most}
 use Rattle.verdict_theory.specs.Passes.{Before, before-first, pass-point, pass-nothing, pass-last, pass-on}
@@ -61,13 +60,13 @@ module _ (xs g : List ℤ) (e : g ≡ coefficients xs) where
   }
 
 -- the last pass: of the depth, or one that settles
-pub settled : (xs : List ℤ) (m D : ℕ) (r : Pass) → m ≤ D → At xs m r → (isBlocked (r .found) ≡ true → m ≡ D) → verdictWords (outcome m (r .found)) (r .count) ≡ recordOf xs D
+pub settled : (xs : List ℤ) (m D : ℕ) (r : Pass) → m ≤ D → At xs m r → (isBlocked (r .found) ≡ true → m ≡ D) → (outcome m (r .found) ≡ verdict xs D) × (r .count ≡ opened xs D)
 settled xs m D r l h last = go (r .found) refl
   where
-    go : (o : Found) → r .found ≡ o → verdictWords (outcome m (r .found)) (r .count) ≡ recordOf xs D
-    go nothing q = ap (λ (o : Found). verdictWords (outcome m o) (r .count)) q ∙ pass-nothing xs m (h .earlier) (h .before) (r .count) (r .found) (h .made) q D l
-    go (coefficient f) q = ap (λ (o : Found). verdictWords (outcome m o) (r .count)) q ∙ pass-last xs m (h .earlier) (h .before) (r .count) (r .found) (h .made) f q ∙ ap (recordOf xs) (last (ap isBlocked q))
-    go (point f) q = ap (λ (o : Found). verdictWords (outcome m o) (r .count)) q ∙ pass-point xs m (h .earlier) (h .before) (r .count) (r .found) (h .made) f q D l
+    go : (o : Found) → r .found ≡ o → (outcome m (r .found) ≡ verdict xs D) × (r .count ≡ opened xs D)
+    go nothing q = let w = pass-nothing xs m (h .earlier) (h .before) (r .count) (r .found) (h .made) q D l in (ap (outcome m) q ∙ w .0, w .1)
+    go (coefficient f) q = let w = pass-last xs m (h .earlier) (h .before) (r .count) (r .found) (h .made) f q in let e = last (ap isBlocked q) in (ap (outcome m) q ∙ w .0 ∙ ap (verdict xs) e, w .1 ∙ ap (opened xs) e)
+    go (point f) q = let w = pass-point xs m (h .earlier) (h .before) (r .count) (r .found) (h .made) f q D l in (ap (outcome m) q ∙ w .0, w .1)
 
 -- ---- the count stays small
 most-next : (m : ℕ) → most (m + 1) ≡ most m + 8 ^ (m + 1)

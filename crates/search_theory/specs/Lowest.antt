@@ -21,13 +21,32 @@ module _ (g : List ℤ) where
   step k n b = elim b [ true ↦ suc k | false ↦ lowFrom g (suc k) n ]
 
   -- with some left, the first of them is low or not
-  pub low-here : (k n : ℕ) → 0 < n → leZ (getD g k (pos 0)) (pos 0) ≡ true → lowFrom g k n ≡ k + 1
+  low-here : (k n : ℕ) → 0 < n → leZ (getD g k (pos 0)) (pos 0) ≡ true → lowFrom g k n ≡ k + 1
   low-here k zero h e = absurd (omega arith)
   low-here k (suc n) h e = let p : suc k ≡ k + 1 = omega arith in ap (step k n) e ∙ p
 
-  pub low-later : (k n : ℕ) → 0 < n → leZ (getD g k (pos 0)) (pos 0) ≡ false → lowFrom g k n ≡ lowFrom g (k + 1) (n - 1)
+  low-later : (k n : ℕ) → 0 < n → leZ (getD g k (pos 0)) (pos 0) ≡ false → lowFrom g k n ≡ lowFrom g (k + 1) (n - 1)
   low-later k zero h e = absurd (omega arith)
   low-later k (suc n) h e = let p : suc k ≡ k + 1 = omega arith in let q : n ≡ suc n - 1 = omega arith in ap (step k n) e ∙ (λ i. lowFrom g (p i) (q i))
+
+  -- as the code looks for it: none of the first k is low
+  pub record Passed (k : ℕ) : Type 0 where
+    pub few : k ≤ 27
+    pub rest : lowest g ≡ lowFrom g k (27 - k)
+
+  pub passed-none : Passed 0
+  unfolding lowest
+  passed-none = record { few = omega arith; rest = refl }
+
+  module _ {k : ℕ} (h : k < 27) (p : Passed k) where
+    pub passed-here : leZ (getD g k (pos 0)) (pos 0) ≡ true → k + 1 ≡ lowest g
+    passed-here e = sym (p .rest ∙ low-here k (27 - k) (omega arith) e)
+
+    pub passed-on : leZ (getD g k (pos 0)) (pos 0) ≡ false → Passed (k + 1)
+    passed-on e = let q : 27 - k - 1 ≡ 27 - (k + 1) = omega arith in record { few = omega arith; rest = p .rest ∙ low-later k (27 - k) (omega arith) e ∙ ap (lowFrom g (k + 1)) q }
+
+  pub passed-all : {k : ℕ} → Passed k → 27 ≤ k → 0 ≡ lowest g
+  passed-all {k} p h = let q : 27 - k ≡ 0 = omega arith in sym (p .rest ∙ ap (lowFrom g k) q)
 
   -- a number found is past the start
   low-past : (k n : ℕ) → (lowFrom g k n ≡ 0 → ⊥) → k < lowFrom g k n

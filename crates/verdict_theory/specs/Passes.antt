@@ -8,13 +8,12 @@ use native.Mathlib.Omega.{arith}
 use native.Mathlib.Decide.{ℕ-discrete}
 use lib.IntN.{ℤ}
 use Rattle.definitions.specs.Subdivision.{whole}
-use Rattle.definitions.specs.Verdict.{Finding, found, lowPoint, lowCoefficient, lastLevel, validLevel, Verdict, valid, invalid, undecided, verdict}
-use Rattle.definitions.specs.Record.{verdictWords, recordOf}
+use Rattle.definitions.specs.Verdict.{Finding, found, lowPoint, lowCoefficient, lastLevel, validLevel, Verdict, valid, invalid, undecided, verdict, opened}
 use Rattle.verdict_theory.specs.Count.{countAt, countTo, opened-at}
 use Rattle.verdict_theory.specs.Findings.{some-not-none}
 use Rattle.verdict_theory.specs.Levels.{level-unique}
 use Rattle.verdict_theory.specs.Positive.{clear-positive}
-use Rattle.verdict_theory.specs.Stable.{hasPoint, isClear, Invalid, Valid, Undecided, invalid-verdict, valid-verdict, undecided-verdict, valid-same, last-none}
+use Rattle.verdict_theory.specs.Stable.{hasPoint, isClear, Invalid, Valid, Undecided, invalid-verdict, valid-verdict, undecided-verdict, verdict-same, opened-same, last-none}
 use Rattle.verdict_theory.specs.Search.{Found, nothing, coefficient, point, Pass, finds, pass, visit, visit-whole}
 
 -- what a pass's find says of its two parts
@@ -65,9 +64,9 @@ module _ (xs : List ℤ) where
     upto : lowPoint xs m ≡ none → (k : ℕ) → k ≤ m → lowPoint xs k ≡ none
     upto p k h = elim (ℕ-discrete k m) [ yes q ↦ ap (lowPoint xs) q ∙ p | no q ↦ before .points k (omega arith) ]
 
-    pub pass-point : (f : Finding) → o ≡ point f → (D : ℕ) → m ≤ D → verdictWords (invalid m f) c ≡ recordOf xs D
-    unfolding recordOf lastLevel
-    pass-point f q D h = ap₂ verdictWords (ap (λ (l : ℕ). invalid l f) (sym last) ∙ sym (invalid-verdict xs D f (record { point = ap (lowPoint xs) last ∙ p }))) (count-is ∙ sym (opened-at xs D m last))
+    pub pass-point : (f : Finding) → o ≡ point f → (D : ℕ) → m ≤ D → (invalid m f ≡ verdict xs D) × (c ≡ opened xs D)
+    unfolding lastLevel
+    pass-point f q D h = (ap (λ (l : ℕ). invalid l f) (sym last) ∙ sym (invalid-verdict xs D f (record { point = ap (lowPoint xs) last ∙ p })), count-is ∙ sym (opened-at xs D m last))
       where
         p : lowPoint xs m ≡ some f
         p = finds-point (lowPoint xs m) (lowCoefficient xs m) f (found-is ∙ q)
@@ -75,9 +74,9 @@ module _ (xs : List ℤ) where
         last : lastLevel xs D ≡ m
         last = level-unique (hasPoint xs) D m h (ap found p) (λ k l. ap found (before .points k l))
 
-    pub pass-nothing : o ≡ nothing → (D : ℕ) → m ≤ D → verdictWords (valid m) c ≡ recordOf xs D
-    unfolding recordOf validLevel
-    pass-nothing q D h = ap₂ verdictWords (ap valid (sym level) ∙ sym (valid-verdict xs m v)) (count-is ∙ sym (opened-at xs m m (last-none xs m (v .noPoint)))) ∙ sym (valid-same xs m D h v)
+    pub pass-nothing : o ≡ nothing → (D : ℕ) → m ≤ D → (valid m ≡ verdict xs D) × (c ≡ opened xs D)
+    unfolding validLevel
+    pass-nothing q D h = (ap valid (sym level) ∙ sym (valid-verdict xs m v) ∙ sym (verdict-same xs m D h v), count-is ∙ sym (opened-at xs m m (last-none xs m (v .noPoint))) ∙ sym (opened-same xs m D h v))
       where
         p : (lowPoint xs m ≡ none) × (lowCoefficient xs m ≡ none)
         p = finds-nothing (lowPoint xs m) (lowCoefficient xs m) (found-is ∙ q)
@@ -88,9 +87,8 @@ module _ (xs : List ℤ) where
         level : validLevel xs m ≡ m
         level = level-unique (isClear xs) m m (omega arith) (ap (λ (k : Option Finding). not (found k)) (p .1)) (before .blocked)
 
-    pub pass-last : (f : Finding) → o ≡ coefficient f → verdictWords (undecided m f) c ≡ recordOf xs m
-    unfolding recordOf
-    pass-last f q = ap₂ verdictWords (sym (undecided-verdict xs m f (record { noPoint = upto (p .0); coefficient = p .1 }))) (count-is ∙ sym (opened-at xs m m (last-none xs m (upto (p .0)))))
+    pub pass-last : (f : Finding) → o ≡ coefficient f → (undecided m f ≡ verdict xs m) × (c ≡ opened xs m)
+    pass-last f q = (sym (undecided-verdict xs m f (record { noPoint = upto (p .0); coefficient = p .1 })), count-is ∙ sym (opened-at xs m m (last-none xs m (upto (p .0)))))
       where
         p : (lowPoint xs m ≡ none) × (lowCoefficient xs m ≡ some f)
         p = finds-coefficient (lowPoint xs m) (lowCoefficient xs m) f (found-is ∙ q)

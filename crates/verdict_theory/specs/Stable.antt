@@ -138,6 +138,9 @@ module _ (xs : List ℤ) where
   invalid-same D D′ l f h = let e = last-up D D′ l f h in
       ap₂ verdictWords (invalid-verdict D′ f (invalid-up D D′ l f h) ∙ ap (λ (m : ℕ). invalid m f) e ∙ sym (invalid-verdict D f h)) (opened-at xs D′ (lastLevel xs D) e ∙ sym (opened-count xs D))
 
+  pub verdict-same : (D D′ : ℕ) → D ≤ D′ → Valid D → verdict xs D′ ≡ verdict xs D
+  verdict-same D D′ l h = valid-verdict D′ (valid-up D D′ l h) ∙ ap valid (level-same D D′ l h) ∙ sym (valid-verdict D h)
+
   pub valid-same : (D D′ : ℕ) → D ≤ D′ → Valid D → recordOf xs D′ ≡ recordOf xs D
   unfolding recordOf
-  valid-same D D′ l h = ap₂ verdictWords (valid-verdict D′ (valid-up D D′ l h) ∙ ap valid (level-same D D′ l h) ∙ sym (valid-verdict D h)) (opened-same D D′ l h)
+  valid-same D D′ l h = ap₂ verdictWords (verdict-same D D′ l h) (opened-same D D′ l h)

@@ -33,6 +33,10 @@ pub values-at : (ws : List ℕ) (k : ℕ) → k < 27 → getD (values ws) k (pos
 unfolding values
 values-at ws k h = tabulate-at (λ k. value (lowAt ws k) (highAt ws k)) 27 k (pos 0) h
 
+-- a number whose words were read at k
+pub value-read : (ws : List ℕ) (k : ℕ) → k < 27 → {low high : ℕ} → (low ≡ lowAt ws k) × (high ≡ highAt ws k) → value low high ≡ getD (values ws) k (pos 0)
+value-read ws k h (p, q) = ap₂ value p q ∙ sym (values-at ws k h)
+
 pub put-length : (low high k : ℕ) (ws : List ℕ) → length (putNumber low high k ws) ≡ length ws
 put-length low high k ws = length-set (set ws (2 * k) low) (2 * k + 1) high ∙ length-set ws (2 * k) low
 

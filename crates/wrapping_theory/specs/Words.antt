@@ -3,7 +3,7 @@ use mathlib.Core.Path.{_≡_, refl, sym, _∙_, ap, subst}
 use mathlib.Core.Bool.{Bool, true, false}
 use mathlib.Core.List.{[], _∷_}
 use Prim.Native.Nat.{ℕ, zero, suc, _+_, _*_, _-_, _/_, _%_, _^_, _<_, _≤_}
-use native.Mathlib.Nat.{le-trans, lt-of-lt-of-le, le-add-right, mul-le-mul-right, add-mul}
+use native.Mathlib.Nat.{le-trans, lt-of-lt-of-le, le-add-right, mul-le-mul-right, add-mul, mod-lt, mod-eq-of-lt, div-add-mod', div-lt-iff-lt-mul}
 use native.Mathlib.Omega.{arith}
 use borrow.Author.Tests.{ltb-true, ltb-false}
 use lib.Arith.{digits-lt, digits-div, digits-mod}
@@ -15,9 +15,9 @@ use mir.ValLaws.{toZ-pos, toZ-neg, toZ-fits, ofZ-toZ}
 use Rattle.foundation.specs.Magnitude.{sub-cases}
 use Rattle.foundation.specs.Polynomial.{var, add, neg, solve}
 use Rattle.foundation.specs.Words.{args, signedLimit}
-use Rattle.definitions.specs.TwoWords.{base, value, wrapped}
-use Rattle.wrapping_theory.specs.Congruence.{Congruent, equal, itself, turned, chained, sum, difference, product, divided}
-use Rattle.wrapping_theory.specs.Wrapping.{bits-congruent, is-wrapped}
+use Rattle.definitions.specs.TwoWords.{base, value, remainder, wrapped, lowWord, highWord}
+use Rattle.wrapping_theory.specs.Congruence.{Congruent, equal, itself, turned, chained, sum, difference, product, divided, left-over, remainder-below}
+use Rattle.wrapping_theory.specs.Wrapping.{bits-congruent, is-wrapped, exact}
 
 -- two words as one number of 128 bits, without a sign
 abbrev pub together : ℕ → ℕ → ℕ
@@ -115,6 +115,35 @@ module _ (low high low′ high′ : ℕ) (v : AreWords low high) (w : AreWords l
 
   pub same-high : high ≡ high′
   same-high = sym (digits-div high (v .low-word)) ∙ ap (λ (n : ℕ). n / base) same-bits ∙ digits-div high′ (w .low-word)
+
+-- ---- the words of a number's value, and the value of a whole number's words
+module _ (low high : ℕ) (w : AreWords low high) where
+  value-left : remainder (base * base) (value low high) ≡ together low high
+  value-left = go (sign high)
+    where
+      turned-back : (m n : ℕ) → n < m → m - suc ((m - suc n) % m) ≡ n
+      turned-back m n h = let less : m - suc n < m = omega (arith, h) in ap (λ (k : ℕ). m - suc k) (mod-eq-of-lt less) ∙ mirrored m n h
+
+      go : Sign high → remainder (base * base) (value low high) ≡ together low high
+      go (plus h) = ap (remainder (base * base)) (value-above low high h) ∙ mod-eq-of-lt (together-below low high w)
+      go (minus h) = ap (remainder (base * base)) (value-below low high w h) ∙ turned-back (base * base) (together low high) (together-below low high w)
+
+  pub low-word-is : lowWord (value low high) ≡ low
+  low-word-is = ap (λ (n : ℕ). n % base) value-left ∙ digits-mod high (w .low-word)
+
+  pub high-word-is : highWord (value low high) ≡ high
+  high-word-is = ap (λ (n : ℕ). n / base) value-left ∙ digits-div high (w .low-word)
+
+module _ (z : ℤ) where
+  pub are-words : AreWords (lowWord z) (highWord z)
+  are-words = record { low-word = mod-lt (remainder (base * base) z) (lit< tt); high-word = div-lt-iff-lt-mul (lit< {n = base} tt) .1 (remainder-below (base * base) (lit< tt) z) }
+
+  -- the representative, and in range the number itself
+  pub value-of-words : value (lowWord z) (highWord z) ≡ wrapped w128 z
+  value-of-words = result-wrapped (lowWord z) (highWord z) are-words (chained (equal (ap pos (div-add-mod' (remainder (base * base) z) base))) (left-over (base * base) (lit< tt) z))
+
+  pub value-of-words-exact : SFits w128 z → value (lowWord z) (highWord z) ≡ z
+  value-of-words-exact f = value-of-words ∙ exact w128 f
 
 -- ---- operations, by their bits
 left-of : (m n : ℕ) → m ≡ n % 2 ^ 128 → Congruent (2 ^ 128) (pos m) (pos n)

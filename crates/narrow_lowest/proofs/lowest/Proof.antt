@@ -1,7 +1,6 @@
 -- `narrow_lowest::lowest` meets its contract: before each turn no coefficient passed is low. Assumes nothing.
-use mathlib.Core.Path.{_≡_, refl, sym, ap, _∙_}
-use mathlib.Core.Bool.{true, false}
-use Prim.Native.Nat.{_+_, _-_, _≤_, _<_, zero-le}
+use mathlib.Core.Path.{sym, ap, _∙_}
+use Prim.Native.Nat.{_-_}
 use native.Mathlib.Omega.{arith}
 use borrow.Author.Needs.{needs}
 use lib.ListN.{getD}
@@ -9,20 +8,18 @@ use lib.IntN.{ℤ, pos}
 use lib.Signed.{leZ}
 use mir.Syntax.{w64}
 use mir.ValLaws.{toZ-ofZ}
-use Rattle.search_theory.specs.Meaning.{lowFrom, lowest}
-use Rattle.search_theory.specs.Lowest.{low-here, low-later}
+use Rattle.search_theory.specs.Lowest.{Passed, passed-none, passed-here, passed-on, passed-all}
 use Rattle.narrow_lowest.proofs.lowest.Statement.{statement}
 use Rattle.narrow_lowest.proofs.lowest.Tie as tie
 
 abbrev Inv-loop : tie.InvT-loop
-Inv-loop g k₀ k = (k ≤ 27) × (lowest g ≡ lowFrom g k (27 - k))
+Inv-loop g k₀ k = Passed g k
 
 abbrev μ-loop : tie.MeasureT-loop
 μ-loop g k₀ k = 27 - k
 
 loop-holds : tie.Need-loop-holds Inv-loop μ-loop
-unfolding lowest
-loop-holds c = (zero-le, refl)
+loop-holds c = passed-none (c .args .g .now)
 
 mul-v : tie.Need-mul-v Inv-loop μ-loop
 mul-v c = search needs
@@ -34,12 +31,8 @@ add-result : tie.Need-add-result Inv-loop μ-loop
 add-result c = search needs
 
 returns : tie.Need-returns Inv-loop μ-loop
-returns c =
-    let g = c .before .before .before .before .args .g .now in
-    let k = c .before .before .before .loop .k in
-    let h : 0 < 27 - k = omega arith in
-    let e : leZ (getD g k (pos 0)) (pos 0) ≡ true = sym (ap (λ (z : ℤ). leZ z (pos 0)) (toZ-ofZ w64 (getD g k (pos 0)) (record { sfits = c .before .v .given }))) ∙ c .if1 .taken in
-    (sym (c .before .before .before .loop .inv .1 ∙ low-here g k (27 - k) h e), omega arith)
+returns c = let l = c .before .before .before in let g = l .before .args .g .now in
+    (passed-here g (omega arith) (l .loop .inv) (sym (ap (λ (z : ℤ). leZ z (pos 0)) (toZ-ofZ w64 (getD g (l .loop .k) (pos 0)) (record { sfits = c .before .v .given }))) ∙ c .if1 .taken), omega arith)
 
 add-k : tie.Need-add-k Inv-loop μ-loop
 add-k c = search needs
@@ -48,19 +41,11 @@ loop-less : tie.Need-loop-less Inv-loop μ-loop
 loop-less c = search needs
 
 loop-again : tie.Need-loop-again Inv-loop μ-loop
-loop-again c =
-    let g = c .before .before .before .before .args .g .now in
-    let k = c .before .before .before .loop .k in
-    let h : 0 < 27 - k = omega arith in
-    let p : 27 - k - 1 ≡ 27 - (k + 1) = omega arith in
-    let e : leZ (getD g k (pos 0)) (pos 0) ≡ false = sym (ap (λ (z : ℤ). leZ z (pos 0)) (toZ-ofZ w64 (getD g k (pos 0)) (record { sfits = c .before .v .given }))) ∙ c .if1 .left in
-    (omega arith, c .before .before .before .loop .inv .1 ∙ low-later g k (27 - k) h e ∙ ap (lowFrom g (k + 1)) p)
+loop-again c = let l = c .before .before .before in let g = l .before .args .g .now in
+    passed-on g (omega arith) (l .loop .inv) (sym (ap (λ (z : ℤ). leZ z (pos 0)) (toZ-ofZ w64 (getD g (l .loop .k) (pos 0)) (record { sfits = c .before .v .given }))) ∙ c .if1 .left)
 
 returns-2 : tie.Need-returns-2 Inv-loop μ-loop
-returns-2 c =
-    let g = c .before .before .args .g .now in
-    let p : 27 - c .before .loop .k ≡ 0 = omega arith in
-    (sym (c .before .loop .inv .1 ∙ ap (lowFrom g (c .before .loop .k)) p), omega arith)
+returns-2 c = let l = c .before in (passed-all (l .before .args .g .now) (l .loop .inv) (omega arith), omega arith)
 
 pub lowest-spec : {M : Type 1} → statement M
 lowest-spec =

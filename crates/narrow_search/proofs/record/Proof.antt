@@ -1,5 +1,5 @@
 -- `narrow_search::record` meets its contract: between passes the levels before are all blocked; the loop ends at a pass that settles, or at the depth. Assumes nothing.
-use mathlib.Core.Path.{_≡_, refl, sym, ap, _∙_}
+use mathlib.Core.Path.{_≡_, refl, sym, ap, ap₂, _∙_}
 use mathlib.Core.Bool.{Bool, true, false, _&&_, and-true, and-eq-true-iff}
 use Prim.Native.Nat.{_+_, _-_, _≤_, _<_, zero-le}
 use native.Mathlib.Omega.{arith}
@@ -7,6 +7,7 @@ use lib.Dec.{ltb}
 use denote.Ref.{now}
 use borrow.Author.Needs.{needs}
 use borrow.Author.Tests.{ltb-true, ltb-false}
+use Rattle.definitions.specs.Record.{verdictWords, recordOf}
 use Rattle.search_theory.specs.Children.{small-less}
 use Rattle.search_theory.specs.Levels.{isBlocked, fresh, settled, Made, made-first, made-next, made-room}
 use Rattle.narrow_rows.specs.Word.{largest}
@@ -63,8 +64,10 @@ settled-requires : tie.Need-settled-requires Inv-loop μ-loop
 settled-requires c κs = tt
 
 returns : tie.Need-returns Inv-loop μ-loop
+unfolding recordOf
 returns c xs e = let l = c .before .before .before .before .before in let made = l .loop .inv .1 in
-    c .settled .ensures (made .pass) (made .is) ∙ settled xs (l .loop .m) (c .before .before .before .before .before .before .before .before .args .depth) (made .pass) (l .loop .inv .0) (made .at xs e) (λ b. last (c .before .before) b)
+    let final = settled xs (l .loop .m) (c .before .before .before .before .before .before .before .before .args .depth) (made .pass) (l .loop .inv .0) (made .at xs e) (λ b. last (c .before .before) b) in
+    c .settled .ensures (made .pass) (made .is) ∙ ap₂ verdictWords (final .0) (final .1)
 
 pub record-spec : {M : Type 1} → statement M
 record-spec =

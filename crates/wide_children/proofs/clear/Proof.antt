@@ -1,0 +1,60 @@
+-- `wide_children::clear` meets its contract: by the lowest number of the half, and of the quarter. Assumes nothing.
+use mathlib.Core.Path.{sym, _∙_, ap, subst}
+use native.Mathlib.Omega.{arith}
+use denote.Ref.{now}
+use borrow.Author.Tests.{eqb-false}
+use Rattle.definitions.specs.Jacobian.{side}
+use Rattle.definitions.specs.Subdivision.{halve}
+use Rattle.expansion_theory.specs.Control.{Cuttable}
+use Rattle.search_theory.specs.Children.{half-length, quarter-length, run-four, run-two, run-none, lowest-clear, cut-whole, cut-half}
+use Rattle.wide_array.specs.Values.{values}
+use Rattle.wide_rows.specs.Word.{largest}
+use borrow.Author.Needs.{needs}
+use Rattle.wide_children.proofs.clear.Statement.{statement}
+use Rattle.wide_children.proofs.clear.Tie as tie
+use Rattle.wide_children.proofs.clear.Reads as reads
+use Rattle.wide_children.proofs.clear.Lts as lts
+use Rattle.wide_children.proofs.half_at.Reads as half-at-reads
+use Rattle.wide_lowest.proofs.lowest.Reads as lowest-reads
+
+half-at-requires : tie.Need-half-at-requires
+half-at-requires c κs = let s = c .before in let ready = s .pre .0 .2 in ((cut-whole largest (values (now (s .args .g))) (s .pre .0 .0), omega arith, s .pre .1 .0), λ e. ready .half-is (eqb-false _ 0 e))
+
+lowest-requires : tie.Need-lowest-requires
+lowest-requires c κs = search needs
+
+returns : tie.Need-returns
+returns c = let s = c .before .before .before .before .before .before in let g = values (now (s .args .g)) in let k = s .args .k in let half = c .before .before .before .before .half-at in
+    (run-four g k (s .pre .0 .1) _ _ (c .before .before .before .if1 .taken) (half .ensures .0) (s .pre .0 .2 .quarter-sized) (lowest-clear _ (half-length g k _ (half .ensures .0)) (sym (c .before .lowest .ensures .0) ∙ c .if2 .taken)), (half .ensures .1, s .pre .1 .1))
+
+half-at-requires-2 : tie.Need-half-at-requires-2
+half-at-requires-2 c κs = let s = c .before .before .before .before .before in let g = values (now (s .args .g)) in let k = s .args .k in let half = c .before .before .before .half-at in let ready = s .pre .0 .2 in
+    ((subst (Cuttable largest) (sym (half .ensures .0)) (cut-half largest g (s .pre .0 .0) k), omega arith, s .pre .1 .1), λ e. ready .quarter-is (eqb-false _ 0 e) ∙ sym (ap (halve 1 (side 1 k)) (half .ensures .0)))
+
+lowest-requires-2 : tie.Need-lowest-requires-2
+lowest-requires-2 c κs = search needs
+
+returns-2 : tie.Need-returns-2
+returns-2 c = let s = c .before .before .before .before .before .before .before .before .before .before in let g = values (now (s .args .g)) in let k = s .args .k in let half = c .before .before .before .before .before .before .before .before .half-at in let made = c .before .before .before .before .half-at2 in let quarter = made .ensures .0 ∙ ap (halve 1 (side 1 k)) (half .ensures .0) in
+    (run-two g k (s .pre .0 .1) _ _ (c .before .before .before .if3 .taken) (half .ensures .0) quarter (lowest-clear _ (quarter-length g k _ quarter) (sym (c .before .lowest2 .ensures .0) ∙ c .if4 .taken)), (half .ensures .1, made .ensures .1))
+
+returns-3 : tie.Need-returns-3
+returns-3 c = let s = c .before .before .before .before .before .before .before .before .before .before in let g = values (now (s .args .g)) in let k = s .args .k in let half = c .before .before .before .before .before .before .before .before .half-at in let made = c .before .before .before .before .half-at2 in
+    (run-none g k (s .pre .0 .1) _ _ (half .ensures .0) (made .ensures .0 ∙ ap (halve 1 (side 1 k)) (half .ensures .0)), (half .ensures .1, made .ensures .1))
+
+returns-4 : tie.Need-returns-4
+returns-4 c = let s = c .before .before .before .before .before .before .before in let g = values (now (s .args .g)) in let k = s .args .k in let half = c .before .before .before .before .before .half-at in let made = c .before .half-at2 in
+    (run-none g k (s .pre .0 .1) _ _ (half .ensures .0) (made .ensures .0 ∙ ap (halve 1 (side 1 k)) (half .ensures .0)), (half .ensures .1, made .ensures .1))
+
+pub clear-spec : {M : Type 1} → statement M
+clear-spec =
+    tie.close
+    (tie.spec
+    half-at-requires
+    lowest-requires
+    returns
+    half-at-requires-2
+    lowest-requires-2
+    returns-2
+    returns-3
+    returns-4)

@@ -1,0 +1,81 @@
+// The recursive search of an element's cells, with numbers of two words. An inner crate, for the inspector's own crates: its
+// callers see to it that the numbers stay small enough at every level that is asked for (`Small`).
+ghost use mathlib.Core.Path.{_≡_};
+ghost use mathlib.Core.List.{List};
+ghost use Prim.Native.Nat.{_^_, _≤_};
+ghost use lib.IntN.{ℤ};
+ghost use Rattle.definitions.specs.Coefficients.{coefficients};
+ghost use Rattle.verdict_theory.specs.Search.{Pass, visit as visited};
+ghost use Rattle.search_theory.specs.Meaning.{cellOf, Small, deepest, Room, Held};
+ghost use Rattle.search_theory.specs.Levels.{wholeOf, fresh};
+ghost use Rattle.wide_array.specs.Values.{values};
+ghost use Rattle.wide_rows.specs.Word.{largest};
+ghost use Rattle.search_pass.specs.Meaning.{passWords, wideRecordOf};
+use limits::WIDE_RECORD_WORDS;
+use search_pass::PASS_WORDS;
+use wide_number::Wide;
+
+// The due cells `left` levels below this one, in path order, after what was found before: a cell with a low coefficient is cut into
+// its eight children, by halves, and children that are known to have none are passed over.
+fn visit(g: &[u64; 54], a: u32, b: u32, c: u32, left: u32, pass: &mut [i64; PASS_WORDS])
+    requires { ⌜ Room largest (values (now g)) a b c left × Held passWords (8 ^ left) (now pass) ⌝ }
+    ensures { λ _. ⌜ ((p : Pass) → now (pass .entry) ≡ passWords p → now (pass .exit) ≡ passWords (visited left (cellOf a b c (values (now (g .entry)))) p)) ⌝ }
+{
+    if search_pass::ended(pass) {
+        return;
+    }
+    let n = wide_lowest::lowest(g);
+    if n == 0 {
+        search_opening::skip(1, left, pass);
+        return;
+    }
+    if left == 0 {
+        search_opening::open_low(wide_array::at(g, n - 1), a, b, c, n, pass);
+        return;
+    }
+    let mut half = [0u64; 54];
+    let mut quarter = [0u64; 54];
+    let mut child = [0u64; 54];
+    let mut k: u32 = 0;
+    while k < 8 {
+        if search_pass::ended(pass) {
+            return;
+        }
+        let over = wide_children::clear(g, k, &mut half, &mut quarter);
+        if over == 0 {
+            let x = cell_corners::side(0, k);
+            let y = cell_corners::side(1, k);
+            let z = cell_corners::side(2, k);
+            wide_subdivision::halve(0, x, &quarter, &mut child);
+            visit(&child, 2 * a + x, 2 * b + y, 2 * c + z, left - 1, pass);
+            k += 1;
+        } else {
+            search_opening::skip(over, left - 1, pass);
+            k += over;
+        }
+    }
+}
+
+// The pass of a level over the whole element, after a pass of which the count of cells stays.
+fn pass_at(g: &[u64; 54], level: u32, pass: &mut [i64; PASS_WORDS])
+    requires { ⌜ Small largest (values (now g)) level × (level ≤ deepest) × Held passWords (8 ^ level) (now pass) ⌝ }
+    ensures { λ _. ⌜ ((p : Pass) → now (pass .entry) ≡ passWords p → now (pass .exit) ≡ passWords (visited level (wholeOf (values (now (g .entry)))) (fresh (p .count)))) ⌝ }
+{
+    search_pass::note(0, 0, 0, 0, 0, Wide::from_i64(0), pass);
+    visit(g, 0, 0, 0, level, pass);
+}
+
+// The record of the eight points with these coefficients: a pass of level 0, 1, .. while only low coefficients are found.
+pub fn record(g: &[u64; 54], depth: u32) -> [i64; WIDE_RECORD_WORDS]
+    requires { ⌜ Small largest (values (now g)) depth × (depth ≤ deepest) ⌝ }
+    ensures { λ w. ⌜ ((xs : List ℤ) → values (now (g .entry)) ≡ coefficients xs → w ≡ wideRecordOf xs depth) ⌝ }
+{
+    let mut m: u32 = 0;
+    let mut r = [0i64; PASS_WORDS];
+    pass_at(g, 0, &mut r);
+    while (m < depth) & search_pass::blocked(&r) {
+        m += 1;
+        pass_at(g, m, &mut r);
+    }
+    search_pass::settled(m, &r)
+}
