@@ -158,9 +158,24 @@ none-held d h p s = record { control = p; sized = s; agrees = λ x k. absurd (om
 pub row-held : {b d h j x y z : ℕ} {c xs ys : List ℤ} → Row d j x y z → Holds b d h j c xs → ys ≡ putRow h (lineAt c x y z) x y z xs → Holds b d h (j + 1) c ys
 row-held {d} {h} {j} {c = c} {xs} r p e = let (s, a) = agrees-row d (halve d h c) (r .direction) j xs (e ∙ row-taken d h j c xs r) (r .number) (p .sized) (p .agrees) in record { control = p .control; sized = s; agrees = a }
 
--- after the last row: the direction d is n
-pub all-held : {b d h : ℕ} (n : ℕ) {c xs : List ℤ} → n < 3 → d ≡ n → Holds b n h 9 c xs → xs ≡ halve d h c
-all-held {d} {h} n {c} {xs} l e p = agrees-all n (halve n h c) l xs (p .sized) (length-halve n h c) (p .agrees) ∙ ap (λ (m : ℕ). halve m h c) (sym e)
+-- every side but 0 is the upper one
+upper-side : (d h : ℕ) (c : List ℤ) → (h ≡ 0 → ⊥) → halve d 1 c ≡ halve d h c
+unfolding halve
+upper-side d zero c ne = absurd (ne refl)
+upper-side zero (suc h) c ne = refl
+upper-side (suc zero) (suc h) c ne = refl
+upper-side (suc (suc d)) (suc h) c ne = refl
+
+-- after the last row: the direction d is n, and the side h is that of the rows
+module _ {b d : ℕ} (n : ℕ) {c xs : List ℤ} (l : n < 3) (e : d ≡ n) where
+  all-held : {g : ℕ} → Holds b n g 9 c xs → xs ≡ halve d g c
+  all-held {g} p = agrees-all n (halve n g c) l xs (p .sized) (length-halve n g c) (p .agrees) ∙ ap (λ (m : ℕ). halve m g c) (sym e)
+
+  pub lower-held : {h : ℕ} → h ≡ 0 → Holds b n 0 9 c xs → xs ≡ halve d h c
+  lower-held z p = all-held p ∙ ap (λ (g : ℕ). halve d g c) (sym z)
+
+  pub upper-held : {h : ℕ} → (h ≡ 0 → ⊥) → Holds b n 1 9 c xs → xs ≡ halve d h c
+  upper-held {h} z p = all-held p ∙ upper-side d h c z
 
 -- ---- the upper half of a row is the lower half of the row turned round, turned round
 module _ (p q r : ℤ) where
@@ -178,11 +193,3 @@ module _ (p q r : ℤ) where
 
   pub turned-end : cutRow integers 0 turned 0 ≡ cutRow integers 1 row 2
   turned-end = refl
-
--- every side but 0 is the upper one
-pub upper-side : (d h : ℕ) (c : List ℤ) → (h ≡ 0 → ⊥) → halve d 1 c ≡ halve d h c
-unfolding halve
-upper-side d zero c ne = absurd (ne refl)
-upper-side zero (suc h) c ne = refl
-upper-side (suc zero) (suc h) c ne = refl
-upper-side (suc (suc d)) (suc h) c ne = refl

@@ -3,14 +3,14 @@ use mathlib.Core.Path.{_≡_, refl, sym, _∙_, ap, ap₂}
 use mathlib.Core.List.{List, [], _∷_}
 use Prim.Native.Nat.{ℕ, _+_, _<_}
 use lib.ListN.{length, set}
-use lib.IntN.{ℤ, pos}
+use lib.IntN.{ℤ, pos, _+ℤ_}
 use Rattle.foundation.specs.Polynomial.{integers}
 use Rattle.foundation.specs.Words.{args, Within, within}
 use Rattle.definitions.specs.Subdivision.{cutRow, halve}
 use Rattle.definitions.specs.TwoWords.{value}
 use Rattle.expansion_theory.specs.Control.{Cuttable}
 use Rattle.expansion_theory.specs.Rows.{Holds, Row, lineAt, putRow}
-use Rattle.expansion_theory.specs.RowLaws.{row-small, row-held, cut-within, none-held, all-held, upper-side}
+use Rattle.expansion_theory.specs.RowLaws.{row-small, row-held, cut-within, none-held}
 use Rattle.wide_array.specs.Values.{lowAt, highAt, putNumber, values, values-length, value-read, values-put, put-length}
 use Rattle.wide_rows.specs.Word.{largest, cutLargest, can-be-cut}
 
@@ -22,14 +22,6 @@ pub record Held (d h j : ℕ) (c ws : List ℕ) : Type 0 where
 -- before the first row
 pub none-held-yet : (d h : ℕ) {c ws : List ℕ} → Cuttable largest (values c) → length ws ≡ 54 → Held d h 0 c ws
 none-held-yet d h {c} {ws} k l = record { sized = l; rows = none-held d h (cut-within largest cutLargest (values c) can-be-cut k) (values-length ws) }
-
--- after the last one: the direction d is n, and the side h is that of the rows
-module _ {d h : ℕ} (n : ℕ) {c ws : List ℕ} (l : n < 3) (e : d ≡ n) where
-  pub lower-held : h ≡ 0 → Held n 0 9 c ws → (values ws ≡ halve d h (values c)) × (length ws ≡ 54)
-  lower-held p k = (all-held n l e (k .rows) ∙ ap (λ (s : ℕ). halve d s (values c)) (sym p), k .sized)
-
-  pub upper-held : (h ≡ 0 → ⊥) → Held n 1 9 c ws → (values ws ≡ halve d h (values c)) × (length ws ≡ 54)
-  upper-held p k = (all-held n l e (k .rows) ∙ upper-side d h (values c) p, k .sized)
 
 -- ---- one row more
 -- the numbers of a row, as they are read
