@@ -4,7 +4,8 @@
  * determinant of trilinear hexahedra is positive. Its code is proved against
  * definitions that lay down every answer (crates/definitions; of lot files
  * crates/lot_format, of slips crates/slip_format). It also reads and
- * writes the lot files in which meshes arrive, and prints slips of them.
+ * writes the lot files in which meshes arrive, prints slips of them, and reckons
+ * with numbers of two words.
  * Link with libbrundhal.a; no other library is needed but the C library's
  * memory functions (memset and the like).
  *
@@ -254,6 +255,41 @@ BrundhalName brundhal_name(const uint8_t *label, size_t label_len,
  * stack. */
 size_t brundhal_slip(const uint8_t *file, size_t file_len,
                      uint8_t out[BRUNDHAL_SLIP_BYTES]);
+
+/* A signed number of two words, low 64 bits and then high, as two's complement:
+ * high, as a signed number, times 2^64, and low. It is from -2^127 to 2^127 - 1, and
+ * any two words are such a number. */
+typedef struct {
+    uint64_t low, high;
+} BrundhalNumber;
+
+/* A number of two words in one: fits is 1 with the number, or 0 with 0 for a number
+ * that is not from -2^63 to 2^63 - 1. */
+typedef struct {
+    uint32_t fits;
+    int64_t number;
+} BrundhalSingle;
+
+/* From a number of one word, such as a bound or a word of a record, and back to one. */
+BrundhalNumber brundhal_number_from_i64(int64_t x);
+BrundhalSingle brundhal_number_to_i64(BrundhalNumber x);
+
+/* x + y, x - y, x times y, two and four times x, all modulo 2^128: the whole number
+ * itself wherever that is from -2^127 to 2^127 - 1; and of several operations in a
+ * row only the last has to be. The product of two numbers of one word always is. */
+BrundhalNumber brundhal_number_add(BrundhalNumber x, BrundhalNumber y);
+BrundhalNumber brundhal_number_sub(BrundhalNumber x, BrundhalNumber y);
+BrundhalNumber brundhal_number_mul(BrundhalNumber x, BrundhalNumber y);
+BrundhalNumber brundhal_number_product(int64_t x, int64_t y);
+BrundhalNumber brundhal_number_twice(BrundhalNumber x);
+BrundhalNumber brundhal_number_four_times(BrundhalNumber x);
+
+/* The order of x and y, and of x and 0: -1 less, 0 equal, 1 greater; and whether x
+ * is at most y, 1 or 0. So bounds of two depths, the lesser depth's times 64 for
+ * each level between, are compared without a product that overflows. */
+int32_t brundhal_number_compare(BrundhalNumber x, BrundhalNumber y);
+int32_t brundhal_number_sign(BrundhalNumber x);
+uint32_t brundhal_number_at_most(BrundhalNumber x, BrundhalNumber y);
 
 #ifdef __cplusplus
 }

@@ -3,7 +3,9 @@
 // Nothing has to be checked first. A slice passes as a pointer and a length in elements; a null or an overlapping pointer is the
 // caller's fault, and so is a length that is not that of the memory behind it.
 ghost use mathlib.Core.Path.{_≡_};
+ghost use lib.IntN.{pos, _+ℤ_, _-ℤ_, _*ℤ_};
 ghost use lib.ListN.{length, take, drop};
+ghost use lib.Signed.{leZ};
 ghost use Rattle.definitions.specs.Limits.{base};
 ghost use Rattle.definitions.specs.Address.{childAddress, cornerAddress, parentAddress};
 ghost use Rattle.definitions.specs.Mesh.{inspection, reportAfter, boundsOf};
@@ -15,7 +17,9 @@ ghost use Rattle.lot_format.specs.Naming.{naming, nameGiven};
 ghost use Rattle.lot_format.specs.Writing.{writing, fileOf};
 ghost use Rattle.slip_format.specs.Slip.{slipLimits, slipOf};
 ghost use Rattle.lot_writer.specs.Meaning.{runs};
+ghost use Rattle.wide_number.specs.Meaning.{singleOf, orderOf};
 ghost use Rattle.brundhal_cell_answers.specs.Meaning.{moveNumbers, moveFields, addressHeld};
+ghost use Rattle.brundhal_number_answers.specs.Meaning.{numberWords, numberFields, singleNumbers, singleFields, orderNumber, answerNumber, numberHeld};
 ghost use Rattle.brundhal_mesh_answers.specs.Meaning.{inspectionNumbers, inspectionFields, stampTold, stampFor};
 ghost use Rattle.brundhal_bounds_answers.specs.Meaning.{boundsNumbers, boundsFields};
 ghost use Rattle.brundhal_lot_answers.specs.Meaning.{lotNumbers, lotFields};
@@ -27,6 +31,8 @@ use brundhal_cell_answers::BrundhalMove;
 use brundhal_lot_answers::BrundhalLot;
 use brundhal_mesh_answers::BrundhalInspection;
 use brundhal_name_answers::BrundhalName;
+use brundhal_number_answers::BrundhalNumber;
+use brundhal_number_answers::BrundhalSingle;
 use brundhal_written_answers::BrundhalWritten;
 
 // Inspects a mesh: `inspector::inspect`.
@@ -156,4 +162,83 @@ pub extern "C" fn brundhal_slip(file: &[u8], out: &mut [u8; limits::SLIP_BYTES])
     ensures { λ r. ⌜ now (out .exit) ≡ laidOver (slipOf base lotFile slipLimits (now (file .entry))) (now (out .entry)) ⌝ }
 {
     slip_writer::write(file, out)
+}
+
+// Numbers of two words: `wide_number::Wide`. An answer that is a number is modulo 2^128; an order is -1 for less, 0 for equal and 1 for greater.
+#[no_mangle]
+pub extern "C" fn brundhal_number_from_i64(x: i64) -> BrundhalNumber
+    ensures { λ r. ⌜ numberFields r ≡ numberWords x ⌝ }
+{
+    brundhal_number_answers::from_i64(x)
+}
+
+#[no_mangle]
+pub extern "C" fn brundhal_number_to_i64(x: BrundhalNumber) -> BrundhalSingle
+    ensures { λ r. ⌜ singleFields r ≡ singleNumbers (singleOf (numberHeld x)) ⌝ }
+{
+    brundhal_number_answers::to_i64(x)
+}
+
+#[no_mangle]
+pub extern "C" fn brundhal_number_add(x: BrundhalNumber, y: BrundhalNumber) -> BrundhalNumber
+    ensures { λ r. ⌜ numberFields r ≡ numberWords (numberHeld x +ℤ numberHeld y) ⌝ }
+{
+    brundhal_number_answers::add(x, y)
+}
+
+#[no_mangle]
+pub extern "C" fn brundhal_number_sub(x: BrundhalNumber, y: BrundhalNumber) -> BrundhalNumber
+    ensures { λ r. ⌜ numberFields r ≡ numberWords (numberHeld x -ℤ numberHeld y) ⌝ }
+{
+    brundhal_number_answers::sub(x, y)
+}
+
+#[no_mangle]
+pub extern "C" fn brundhal_number_mul(x: BrundhalNumber, y: BrundhalNumber) -> BrundhalNumber
+    ensures { λ r. ⌜ numberFields r ≡ numberWords (numberHeld x *ℤ numberHeld y) ⌝ }
+{
+    brundhal_number_answers::mul(x, y)
+}
+
+#[no_mangle]
+pub extern "C" fn brundhal_number_product(x: i64, y: i64) -> BrundhalNumber
+    ensures { λ r. ⌜ numberFields r ≡ numberWords (x *ℤ y) ⌝ }
+{
+    brundhal_number_answers::product(x, y)
+}
+
+#[no_mangle]
+pub extern "C" fn brundhal_number_twice(x: BrundhalNumber) -> BrundhalNumber
+    ensures { λ r. ⌜ numberFields r ≡ numberWords (pos 2 *ℤ numberHeld x) ⌝ }
+{
+    brundhal_number_answers::twice(x)
+}
+
+#[no_mangle]
+pub extern "C" fn brundhal_number_four_times(x: BrundhalNumber) -> BrundhalNumber
+    ensures { λ r. ⌜ numberFields r ≡ numberWords (pos 4 *ℤ numberHeld x) ⌝ }
+{
+    brundhal_number_answers::four_times(x)
+}
+
+#[no_mangle]
+pub extern "C" fn brundhal_number_compare(x: BrundhalNumber, y: BrundhalNumber) -> i32
+    ensures { λ r. ⌜ r ≡ orderNumber (orderOf (numberHeld x) (numberHeld y)) ⌝ }
+{
+    brundhal_number_answers::compare(x, y)
+}
+
+// The order against 0.
+#[no_mangle]
+pub extern "C" fn brundhal_number_sign(x: BrundhalNumber) -> i32
+    ensures { λ r. ⌜ r ≡ orderNumber (orderOf (numberHeld x) (pos 0)) ⌝ }
+{
+    brundhal_number_answers::sign(x)
+}
+
+#[no_mangle]
+pub extern "C" fn brundhal_number_at_most(x: BrundhalNumber, y: BrundhalNumber) -> u32
+    ensures { λ r. ⌜ r ≡ answerNumber (leZ (numberHeld x) (numberHeld y)) ⌝ }
+{
+    brundhal_number_answers::at_most(x, y)
 }

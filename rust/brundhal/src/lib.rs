@@ -2,19 +2,23 @@
 //!
 //! The library decides, in whole numbers and without rounding, whether the
 //! Jacobian determinant of trilinear hexahedra is positive; it reads and writes the
-//! lot files in which meshes arrive, and prints slips of them.  Its code is proved
-//! against the definitions of documents 01 and 02; this crate adds the
-//! declarations, and cuts a lot's label and an element's name out of the caller's
-//! own bytes where the library says that they stand.  Nothing has to be checked
-//! before a call: every argument is taken, and every answer is laid down there.
+//! lot files in which meshes arrive, prints slips of them, and reckons with numbers
+//! of two words.  Its code is proved against the definitions of documents 01 and 02;
+//! this crate adds the declarations, and cuts a lot's label and an element's name out
+//! of the caller's own bytes where the library says that they stand.  Nothing has to
+//! be checked before a call: every argument is taken, and every answer is laid down
+//! there.
 
 #![deny(warnings)]
 #![deny(unsafe_op_in_unsafe_fn)]
 
 use std::fmt;
 
+mod number;
 #[cfg(test)]
 mod tests;
+
+pub use number::Number;
 
 /// Words in a record, and report words an element: 01, "The report space is
 /// signed 64-bit, eight words per element."
@@ -162,7 +166,7 @@ impl<'a> Name<'a> {
 
 /// What the library exports, as include/brundhal.h declares it.
 mod raw {
-    use super::{Address, Bounds, Inspection, Written, SLIP_BYTES};
+    use super::{Address, Bounds, Inspection, Number, Written, SLIP_BYTES};
 
     #[repr(C)]
     pub struct Move {
@@ -190,6 +194,12 @@ mod raw {
         pub grouped: u32,
         pub start: usize,
         pub len: usize,
+    }
+
+    #[repr(C)]
+    pub struct Single {
+        pub fits: u32,
+        pub number: i64,
     }
 
     extern "C" {
@@ -251,6 +261,17 @@ mod raw {
         ) -> Name;
         pub fn brundhal_slip(file: *const u8, file_len: usize, out: *mut [u8; SLIP_BYTES])
             -> usize;
+        pub fn brundhal_number_from_i64(x: i64) -> Number;
+        pub fn brundhal_number_to_i64(x: Number) -> Single;
+        pub fn brundhal_number_add(x: Number, y: Number) -> Number;
+        pub fn brundhal_number_sub(x: Number, y: Number) -> Number;
+        pub fn brundhal_number_mul(x: Number, y: Number) -> Number;
+        pub fn brundhal_number_product(x: i64, y: i64) -> Number;
+        pub fn brundhal_number_twice(x: Number) -> Number;
+        pub fn brundhal_number_four_times(x: Number) -> Number;
+        pub fn brundhal_number_compare(x: Number, y: Number) -> i32;
+        pub fn brundhal_number_sign(x: Number) -> i32;
+        pub fn brundhal_number_at_most(x: Number, y: Number) -> u32;
     }
 }
 

@@ -15,6 +15,10 @@ fn layout() {
     assert_eq!((size_of::<Written>(), align_of::<Written>()), (8, 4));
     assert_eq!((size_of::<raw::Name>(), align_of::<raw::Name>()), (24, 8));
     assert_eq!((offset_of!(raw::Name, start), offset_of!(raw::Name, len)), (8, 16));
+    assert_eq!((size_of::<Number>(), align_of::<Number>()), (16, 8));
+    assert_eq!((offset_of!(Number, low), offset_of!(Number, high)), (0, 8));
+    assert_eq!((size_of::<raw::Single>(), align_of::<raw::Single>()), (16, 8));
+    assert_eq!((offset_of!(raw::Single, fits), offset_of!(raw::Single, number)), (0, 8));
 }
 
 #[test]
@@ -329,5 +333,71 @@ fn slips() {
         let length = slip(file, &mut out);
         assert_eq!(&out[..length], text);
         assert!(out[length..].iter().all(|&byte| byte == 7));
+    }
+}
+
+/// 2^127 - 1 and -2^127.
+const HIGHEST: Number = Number { low: u64::MAX, high: u64::MAX >> 1 };
+const LOWEST: Number = Number { low: 0, high: 1 << 63 };
+
+/// The sign fills the high word.
+#[test]
+fn numbers_of_one_word() {
+    assert_eq!(Number::from(0), Number::default());
+    assert_eq!(Number::from(7), Number { low: 7, high: 0 });
+    assert_eq!(Number::from(-1), Number { low: u64::MAX, high: u64::MAX });
+    assert_eq!(Number::from(i64::MIN), Number { low: 1 << 63, high: u64::MAX });
+    for x in [0, 1, -1, 7, i64::MIN, i64::MAX] {
+        assert_eq!(Number::from(x).to_i64(), Some(x));
+        assert_eq!(i128::from(Number::from(x)), i128::from(x));
+    }
+}
+
+/// A number that one word does not hold has 0 in the place of one.
+#[test]
+fn numbers_too_long_for_one_word() {
+    let past = 1i128 << 63;
+    for x in [past, past + 1, -past - 1, -past - 2, 1 << 64, i128::MAX, i128::MIN] {
+        let number = Number { low: x as u64, high: (x >> 64) as u64 };
+        assert_eq!((i128::from(number), number.to_i64()), (x, None));
+        // Numbers in, numbers out, as in `to_i64`.
+        let raw::Single { fits, number } = unsafe { raw::brundhal_number_to_i64(number) };
+        assert_eq!((fits, number), (0, 0));
+    }
+}
+
+#[test]
+fn sums_and_products() {
+    let number = |x: i64| Number::from(x);
+    assert_eq!(number(-3).wrapping_add(number(5)), number(2));
+    assert_eq!(number(3).wrapping_sub(number(5)), number(-2));
+    assert_eq!(number(-3).wrapping_mul(number(5)), number(-15));
+    assert_eq!(Number::product(i64::MIN, i64::MIN), Number { low: 0, high: 1 << 62 });
+    assert_eq!(Number::product(i64::MIN, -1).to_i64(), None);
+    assert_eq!((number(-3).twice(), number(-3).four_times()), (number(-6), number(-12)));
+    // past the end, and back again
+    assert_eq!(HIGHEST.wrapping_add(number(1)), LOWEST);
+    assert_eq!(LOWEST.wrapping_sub(number(1)), HIGHEST);
+    assert_eq!(
+        HIGHEST.wrapping_add(number(5)).wrapping_sub(number(6)).wrapping_sub(HIGHEST),
+        number(-1)
+    );
+    assert_eq!(LOWEST.wrapping_mul(number(-1)), LOWEST);
+    assert_eq!((LOWEST.twice(), HIGHEST.four_times()), (number(0), number(-4)));
+}
+
+/// A list of numbers that rise, each beside each.
+#[test]
+fn orders_of_numbers() {
+    let low_word = Number { low: 1 << 63, high: 0 };
+    let below = Number { low: 0, high: u64::MAX };
+    let rising =
+        [LOWEST, below, Number::from(-1), Number::from(0), Number::from(1), low_word, HIGHEST];
+    for (a, x) in rising.iter().enumerate() {
+        for (b, y) in rising.iter().enumerate() {
+            assert_eq!((x.cmp(y), x.partial_cmp(y)), (a.cmp(&b), Some(a.cmp(&b))));
+            assert_eq!((x.at_most(*y), x <= y, x < y), (a <= b, a <= b, a < b));
+        }
+        assert_eq!(x.sign(), a.cmp(&3));
     }
 }

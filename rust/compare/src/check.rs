@@ -1,7 +1,7 @@
 //! One question to both programs: their answers word by word, what 01 says over
 //! depths, and what 02 says of stamps and of writing and reading.
 
-use crate::program::{stamped, Answer, AtDepth, Inspects, Program, Stamp};
+use crate::program::{stamped, Answer, AtDepth, Inspects, Program, Reckoned, Stamp, RECKONED};
 use crate::question::Question;
 use lent::{Fenced, FENCE};
 use second::specimens::Shaker;
@@ -132,6 +132,16 @@ pub const STAMPS: [&str; 4] = ["sound", "faulty", "open", "no stamp"];
 
 fn stamp_words(stamp: Option<Stamp>) -> Words {
     Words { words: vec![stamp_word(stamp)], name: Box::new(|_| "stamp".to_string()) }
+}
+
+/// The low word of each answer, and then its high one.
+fn reckoned_words(answers: Reckoned) -> Words {
+    Words {
+        words: answers.iter().flat_map(|&x| [x as i64, (x >> 64) as i64]).collect(),
+        name: Box::new(|place| {
+            format!("{}, {} word", RECKONED[place / 2], ["low", "high"][place % 2])
+        }),
+    }
 }
 
 /// The first word that differs, if any.
@@ -366,6 +376,10 @@ pub fn ask(first: Program, second: Program, question: &Question) -> Result<Vec<i
         }
         Question::Slip { file } => {
             let ask = |program: Program| lots::slip_words(program.prints, file);
+            compared(question, ask, first, second)
+        }
+        Question::Numbers { x, y } => {
+            let ask = |program: Program| reckoned_words(program.reckons.reckoned(*x, *y));
             compared(question, ask, first, second)
         }
     }

@@ -1,4 +1,4 @@
-//! Random elements, meshes and addresses, each from a seed.
+//! Random elements, meshes, addresses and numbers, each from a seed.
 
 use crate::program::IN_ORDER;
 use crate::question::Question;
@@ -391,4 +391,12 @@ pub fn moves(shaker: &mut Shaker) -> [Question; 3] {
     let address = [0; 4].map(|_: u32| any_number(shaker));
     let n = any_number(shaker);
     [Question::Child { address, n }, Question::Corner { address, n }, Question::Parent { address }]
+}
+
+// ----------------------------------------------------------------- numbers --
+
+/// A number of any length in bits, of either sign.
+pub fn number(shaker: &mut Shaker) -> i128 {
+    let bits = u128::from(shaker.draw()) << 64 | u128::from(shaker.draw());
+    bits as i128 >> shaker.between(0, 127)
 }

@@ -2,6 +2,7 @@
 //!
 //! `compare SEED COUNT`: the whole run, with COUNT random elements.
 //! `compare lots SEED COUNT`: its lots alone.
+//! `compare numbers SEED COUNT`: its numbers of two words alone.
 //! `compare again`: the questions on standard input, one a line, as a
 //! difference prints them; the answer of each is printed.
 
@@ -9,7 +10,7 @@
 
 use compare::program::{PRODUCT, SECOND};
 use compare::question::Question;
-use compare::run::{run, run_lots, Pair, Plan};
+use compare::run::{numbers, run, run_lots, Pair, Plan};
 use std::io;
 use std::process::ExitCode;
 
@@ -43,13 +44,18 @@ fn lots(seed: &str, count: &str) -> Result<(), String> {
     run_lots(PAIR, plan(seed, count)?, &say).map_err(|found| found.to_string())
 }
 
+fn numbers_alone(seed: &str, count: &str) -> Result<(), String> {
+    numbers(PAIR, plan(seed, count)?).map(say).map_err(|found| found.to_string())
+}
+
 fn main() -> ExitCode {
     let arguments: Vec<String> = std::env::args().skip(1).collect();
     let done = match &arguments.iter().map(String::as_str).collect::<Vec<_>>()[..] {
         ["again"] => again(),
         ["lots", seed, count] => lots(seed, count),
+        ["numbers", seed, count] => numbers_alone(seed, count),
         [seed, count] => whole(seed, count),
-        _ => Err("use: compare [lots] SEED COUNT, or: compare again".to_string()),
+        _ => Err("use: compare [lots|numbers] SEED COUNT, or: compare again".to_string()),
     };
     match done {
         Ok(()) => {

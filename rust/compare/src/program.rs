@@ -1,9 +1,10 @@
 //! The two programs behind one face.
 
-use brundhal::SLIP_BYTES;
+use brundhal::{Number, SLIP_BYTES};
 use second::lot::writing::write_lot;
 use second::lot::{read_lot, Groups, Lot, ELEMENT_WORDS, NODE_WORDS};
 use second::Limits;
+use std::cmp::Ordering;
 
 /// Every word of an inspection's answer: number, valid, invalid, undecided,
 /// refused.
@@ -60,6 +61,7 @@ pub struct Program<'a> {
     pub writes: &'a dyn Writes,
     pub names: &'a dyn Names,
     pub prints: &'a dyn Prints,
+    pub reckons: &'a dyn Reckons,
 }
 
 /// The services of 01.
@@ -111,6 +113,58 @@ pub trait Prints: Sync {
     fn slip(&self, file: &[u8], out: &mut SlipSpace) -> usize;
 }
 
+/// What is said of a pair of numbers of two words, in the order of `RECKONED`.
+pub type Reckoned = [i128; 12];
+
+pub const RECKONED: [&str; 12] = [
+    "x's low word as a signed number of two words",
+    "whether one word holds x",
+    "x in one word",
+    "x + y",
+    "x - y",
+    "x times y",
+    "the product of both low words, signed",
+    "twice x",
+    "four times x",
+    "the order of x and y",
+    "the sign of x",
+    "x at most y",
+];
+
+/// Numbers of two words, each an i128 here, so that both words are compared.
+pub trait Reckons: Sync {
+    fn wide(&self, x: i64) -> i128;
+    fn single(&self, x: i128) -> Option<i64>;
+    fn add(&self, x: i128, y: i128) -> i128;
+    fn sub(&self, x: i128, y: i128) -> i128;
+    fn mul(&self, x: i128, y: i128) -> i128;
+    fn product(&self, x: i64, y: i64) -> i128;
+    fn twice(&self, x: i128) -> i128;
+    fn four_times(&self, x: i128) -> i128;
+    fn compare(&self, x: i128, y: i128) -> Ordering;
+    fn sign(&self, x: i128) -> Ordering;
+    fn at_most(&self, x: i128, y: i128) -> bool;
+
+    /// Every service, of a pair.
+    fn reckoned(&self, x: i128, y: i128) -> Reckoned {
+        let single = self.single(x);
+        [
+            self.wide(x as i64),
+            i128::from(single.is_some()),
+            single.map_or(0, i128::from),
+            self.add(x, y),
+            self.sub(x, y),
+            self.mul(x, y),
+            self.product(x as i64, y as i64),
+            self.twice(x),
+            self.four_times(x),
+            self.compare(x, y) as i128,
+            self.sign(x) as i128,
+            i128::from(self.at_most(x, y)),
+        ]
+    }
+}
+
 /// The indices of an element that has eight nodes of its own.
 pub const IN_ORDER: [u32; 8] = [0, 1, 2, 3, 4, 5, 6, 7];
 
@@ -135,6 +189,7 @@ pub const PRODUCT: Program = Program {
     writes: &Product,
     names: &Product,
     prints: &Product,
+    reckons: &Product,
 };
 
 fn moved(answer: brundhal::Moved) -> Move {
@@ -223,13 +278,70 @@ impl Prints for Product {
     }
 }
 
+/// A number by its words.
+fn number(x: i128) -> Number {
+    Number { low: x as u64, high: (x >> 64) as u64 }
+}
+
+impl Reckons for Product {
+    fn wide(&self, x: i64) -> i128 {
+        Number::from(x).into()
+    }
+
+    fn single(&self, x: i128) -> Option<i64> {
+        number(x).to_i64()
+    }
+
+    fn add(&self, x: i128, y: i128) -> i128 {
+        number(x).wrapping_add(number(y)).into()
+    }
+
+    fn sub(&self, x: i128, y: i128) -> i128 {
+        number(x).wrapping_sub(number(y)).into()
+    }
+
+    fn mul(&self, x: i128, y: i128) -> i128 {
+        number(x).wrapping_mul(number(y)).into()
+    }
+
+    fn product(&self, x: i64, y: i64) -> i128 {
+        Number::product(x, y).into()
+    }
+
+    fn twice(&self, x: i128) -> i128 {
+        number(x).twice().into()
+    }
+
+    fn four_times(&self, x: i128) -> i128 {
+        number(x).four_times().into()
+    }
+
+    fn compare(&self, x: i128, y: i128) -> Ordering {
+        number(x).cmp(&number(y))
+    }
+
+    fn sign(&self, x: i128) -> Ordering {
+        number(x).sign()
+    }
+
+    fn at_most(&self, x: i128, y: i128) -> bool {
+        number(x).at_most(number(y))
+    }
+}
+
 // ------------------------------------------------------ the second program --
 
 /// The second program, at 01's limits.
 pub struct Second;
 
-pub const SECOND: Program =
-    Program { inspects: &Second, reads: &Second, writes: &Second, names: &Second, prints: &Second };
+pub const SECOND: Program = Program {
+    inspects: &Second,
+    reads: &Second,
+    writes: &Second,
+    names: &Second,
+    prints: &Second,
+    reckons: &Second,
+};
 
 fn said((to, made): (second::Address, bool)) -> Move {
     [u32::from(made), to.level, to.a, to.b, to.c]
@@ -380,5 +492,52 @@ impl Prints for Second {
         let slip = second::slip::slip(file);
         lay(&slip, out);
         slip.len()
+    }
+}
+
+/// Rust's own numbers of 128 bits.
+impl Reckons for Second {
+    fn wide(&self, x: i64) -> i128 {
+        x.into()
+    }
+
+    fn single(&self, x: i128) -> Option<i64> {
+        x.try_into().ok()
+    }
+
+    fn add(&self, x: i128, y: i128) -> i128 {
+        x.wrapping_add(y)
+    }
+
+    fn sub(&self, x: i128, y: i128) -> i128 {
+        x.wrapping_sub(y)
+    }
+
+    fn mul(&self, x: i128, y: i128) -> i128 {
+        x.wrapping_mul(y)
+    }
+
+    fn product(&self, x: i64, y: i64) -> i128 {
+        i128::from(x) * i128::from(y)
+    }
+
+    fn twice(&self, x: i128) -> i128 {
+        x.wrapping_mul(2)
+    }
+
+    fn four_times(&self, x: i128) -> i128 {
+        x.wrapping_mul(4)
+    }
+
+    fn compare(&self, x: i128, y: i128) -> Ordering {
+        x.cmp(&y)
+    }
+
+    fn sign(&self, x: i128) -> Ordering {
+        x.cmp(&0)
+    }
+
+    fn at_most(&self, x: i128, y: i128) -> bool {
+        x <= y
     }
 }

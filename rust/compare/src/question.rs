@@ -64,6 +64,11 @@ pub enum Question {
     Slip {
         file: Vec<u8>,
     },
+    /// All that is said of two numbers of two words.
+    Numbers {
+        x: i128,
+        y: i128,
+    },
 }
 
 fn put<T: fmt::Display>(f: &mut fmt::Formatter<'_>, numbers: &[T]) -> fmt::Result {
@@ -137,6 +142,7 @@ impl fmt::Display for Question {
                 write!(f, "slip")?;
                 put_run(f, file)
             }
+            Question::Numbers { x, y } => write!(f, "numbers {x} {y}"),
         }
     }
 }
@@ -198,6 +204,7 @@ impl Numbers<'_> {
                 groups: self.groups()?,
             },
             "slip" => Question::Slip { file: self.run()? },
+            "numbers" => Question::Numbers { x: self.one()?, y: self.one()? },
             _ => return None,
         };
         self.0.next().is_none().then_some(question)

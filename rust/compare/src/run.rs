@@ -4,7 +4,7 @@ use crate::cases::{cases, figures, not_as_printed, rounded};
 use crate::check::{ask, last_record, report_words, Difference, POINTS_A_LEVEL, STAMPS};
 use crate::draw::{self, Kind, KINDS};
 use crate::lots::{numbered, Service, NAMING, PRINTING, READING, WRITING};
-use crate::program::{Program, IN_ORDER};
+use crate::program::{Program, IN_ORDER, RECKONED};
 use crate::question::Question;
 use second::specimens::Shaker;
 use std::collections::BTreeMap;
@@ -26,6 +26,8 @@ pub struct Plan {
     pub writes: usize,
     pub names: usize,
     pub slips: usize,
+    /// Random pairs of numbers of two words.
+    pub numbers: usize,
 }
 
 impl Plan {
@@ -40,6 +42,7 @@ impl Plan {
             writes: elements,
             names: elements,
             slips: elements / 50,
+            numbers: elements * 100,
         }
     }
 }
@@ -323,6 +326,53 @@ fn stamps(pair: Pair, plan: Plan) -> Result<String, Difference> {
     Ok(format!("{}, beside that of every mesh", in_words(&tally)))
 }
 
+/// Numbers at which a word, a half or a sign begins or ends, and their neighbours.
+fn special_numbers() -> Vec<i128> {
+    let powers = [31, 32, 63, 64, 126].map(|bits| 1i128 << bits);
+    let both = powers.iter().chain(&[1]).flat_map(|&power| [power, -power]);
+    let ends = [0, i128::MIN, i128::MAX];
+    let near = |x: i128| [x.wrapping_sub(1), x, x.wrapping_add(1)];
+    let mut numbers: Vec<i128> = both.chain(ends).flat_map(near).collect();
+    numbers.sort_unstable();
+    numbers.dedup();
+    numbers
+}
+
+/// Numbers of two words: every pair of special ones, and random ones of every length in
+/// bits, also beside special ones and beside those with the same high word.
+pub fn numbers(pair: Pair, plan: Plan) -> Result<String, Difference> {
+    const LOT: usize = 4096;
+    let special = special_numbers();
+    let ask = |x: i128, y: i128| {
+        if pair.first.reckons.reckoned(x, y) == pair.second.reckons.reckoned(x, y) {
+            return Ok(());
+        }
+        Err(pair.ask(&Question::Numbers { x, y }).expect_err("answers that differ"))
+    };
+    for &x in &special {
+        special.iter().try_for_each(|&y| ask(x, y))?;
+    }
+    on_two_threads(plan.numbers.div_ceil(LOT), |turn, _| {
+        let mut shaker = shaker_for(plan.seed, 25, turn);
+        for at in turn * LOT..((turn + 1) * LOT).min(plan.numbers) {
+            let x = draw::number(&mut shaker);
+            let y = match at % 4 {
+                0 => special[shaker.draw() as usize % special.len()],
+                1 => x ^ i128::from(shaker.draw()),
+                _ => draw::number(&mut shaker),
+            };
+            ask(x, y)?;
+        }
+        Ok(())
+    })?;
+    let pairs = special.len() * special.len();
+    Ok(format!(
+        "{pairs} special pairs, {} random ones, {} answers each",
+        plan.numbers,
+        RECKONED.len()
+    ))
+}
+
 /// Random elements of every kind.  The depth goes round with the element: two
 /// in eight are asked of both programs to depth 3, with every depth below; the
 /// first program is held over all depths on each.
@@ -424,11 +474,12 @@ type Part<'a> = (&'a str, &'a dyn Fn() -> Result<String, Difference>);
 /// Everything, part by part; what each came to is said in a line.
 pub fn run(pair: Pair, plan: Plan, say: &dyn Fn(String)) -> Result<(), Difference> {
     say(format!("seed {}", plan.seed));
-    let parts: [Part; 8] = [
+    let parts: [Part; 9] = [
         ("worked cases", &|| worked_cases(pair)),
         ("figures of the paper", &|| paper_figures(pair)),
         ("address moves", &|| moves(pair, plan)),
         ("stamps", &|| stamps(pair, plan)),
+        ("numbers of two words", &|| numbers(pair, plan)),
         ("refusals", &|| refusals(pair)),
         ("shared nodes", &|| shared_nodes(pair)),
         ("random meshes", &|| meshes(pair, plan)),

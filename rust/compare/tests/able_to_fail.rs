@@ -34,6 +34,8 @@ mod naming;
 mod printing;
 #[path = "able_to_fail/reading.rs"]
 mod reading;
+#[path = "able_to_fail/reckoning.rs"]
+mod reckoning;
 #[path = "able_to_fail/writing.rs"]
 mod writing;
 
@@ -347,6 +349,7 @@ fn small_plan() -> Plan {
         writes: 2000,
         names: 2000,
         slips: 100,
+        numbers: 20_000,
     }
 }
 
@@ -602,6 +605,7 @@ fn questions_read_back() {
         },
         Question::Slip { file: vec![0] },
         Question::Slip { file: b"LB\x01\0~EN\0\0".to_vec() },
+        Question::Numbers { x: i128::MIN, y: i128::MAX },
     ];
     for question in questions {
         let read: Question = question.to_string().parse().expect("a question");
@@ -617,6 +621,7 @@ fn questions_read_back() {
         "write 0 0 0 0 0 0",
         "name 0 0 0 0 0 0 0",
         "slip 1 -1",
+        "numbers 1 170141183460469231731687303715884105728",
         "sound",
     ];
     for line in lines {

@@ -1,6 +1,6 @@
 //! The side-by-side run of the gate.  BRUNDHAL_SEED in the environment gives
-//! another seed, BRUNDHAL_COUNT another number of random elements, and of lots in
-//! proportion.
+//! another seed, BRUNDHAL_COUNT another number of random elements, and of lots and
+//! numbers in proportion.
 
 #![deny(warnings)]
 
