@@ -1,9 +1,9 @@
 -- Numbers of two words and the answers about them as plain numbers, and what a caller's plain words stand for.
 use mathlib.Core.Bool.{Bool, true, false}
 use mathlib.Core.List.{List, [], _∷_}
-use Prim.Native.Nat.{ℕ, _/_, _%_, _^_}
+use Prim.Native.Nat.{ℕ}
 use lib.IntN.{ℤ, pos, negsuc}
-use Rattle.definitions.specs.TwoWords.{base, value, remainder}
+use Rattle.definitions.specs.TwoWords.{value, lowWord, highWord}
 use Rattle.wide_number.specs.declared.Order.{Order}
 use Rattle.wide_number.specs.declared.Order.the-variants.{Less, Equal, Greater}
 use Rattle.wide_number.specs.declared.Single.{Single}
@@ -14,7 +14,7 @@ use Rattle.brundhal_number_answers.specs.declared.BrundhalSingle.{Brundh
 -- ---- what an answer says: the numbers of the definition's answer, and beside them the fields of the struct, each once and in the same order
 -- a whole number modulo 2^128: its low word, and then its high one
 unfoldable pub numberWords : ℤ → List ℕ
-numberWords z = remainder (2 ^ 128) z % base ∷ remainder (2 ^ 128) z / base ∷ []
+numberWords z = lowWord z ∷ highWord z ∷ []
 
 abbrev pub numberFields : BrundhalNumber → List ℕ
 numberFields r = r .low ∷ r .high ∷ []

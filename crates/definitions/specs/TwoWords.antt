@@ -8,12 +8,12 @@ use mir.Syntax.{Width, w64}
 use mir.Val.{toZ, bits}
 
 -- what stands at each place of the high word: "low 64 bits and then high"
-abbrev pub base : ℕ
-base = 2 ^ 64
+abbrev pub wordBase : ℕ
+wordBase = 2 ^ 64
 
 -- the number of two words: the high one, as a signed number, times 2^64, and the low one
 unfoldable pub value : ℕ → ℕ → ℤ
-value low high = toZ w64 high *ℤ pos base +ℤ pos low
+value low high = toZ w64 high *ℤ pos wordBase +ℤ pos low
 
 -- what a whole number leaves, divided by m: 0 to m − 1
 abbrev pub remainder : ℕ → ℤ → ℕ
@@ -26,10 +26,10 @@ wrapped w z = toZ w (remainder (2 ^ bits w) z)
 
 -- and back: the words of a whole number, low and high
 abbrev pub lowWord : ℤ → ℕ
-lowWord z = remainder (base * base) z % base
+lowWord z = remainder (wordBase * wordBase) z % wordBase
 
 abbrev pub highWord : ℤ → ℕ
-highWord z = remainder (base * base) z / base
+highWord z = remainder (wordBase * wordBase) z / wordBase
 
 -- both as a record has them, each as a signed number
 abbrev pub twoWords : ℤ → List ℤ

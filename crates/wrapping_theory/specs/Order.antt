@@ -11,7 +11,7 @@ use lib.IntN.{ℤ, pos, negsuc, subℕ}
 use lib.Signed.{ltZ, leZ}
 use Rattle.foundation.specs.Magnitude.{sub-cases}
 use Rattle.foundation.specs.Words.{signedLimit}
-use Rattle.definitions.specs.TwoWords.{base, value}
+use Rattle.definitions.specs.TwoWords.{wordBase, value}
 use Rattle.wrapping_theory.specs.Words.{together, AreWords, Sign, plus, minus, sign, together-below, value-above, value-below}
 
 -- ---- numbers lowered by the same
@@ -57,15 +57,15 @@ module _ (low high : ℕ) (w : AreWords low high) where
       less : (m a b c : ℕ) → m ≡ c + c → b < m → a + c ≡ b → negsuc (m - suc b) ≡ subℕ a c
       less m a b c e h f = sub-cases a c (λ z. negsuc (m - suc b) ≡ z) (λ n p. ap negsuc (omega (arith, e, f, p))) (λ n p. absurd (omega (arith, e, f, h, p)))
 
-      raise : (h k l : ℕ) → k * base + l + signedLimit * base ≡ (k + signedLimit) * base + l
-      raise h k l = sum (k * base) l (signedLimit * base) ∙ ap (λ (n : ℕ). n + l) (sym (add-mul k signedLimit base))
+      raise : (h k l : ℕ) → k * wordBase + l + signedLimit * wordBase ≡ (k + signedLimit) * wordBase + l
+      raise h k l = sum (k * wordBase) l (signedLimit * wordBase) ∙ ap (λ (n : ℕ). n + l) (sym (add-mul k signedLimit wordBase))
         where
           sum : (a b c : ℕ) → a + b + c ≡ a + c + b
           sum a b c = omega arith
 
       go : Sign high → value low high ≡ subℕ (together low (lifted high)) (2 ^ 127)
-      go (plus h) = value-above low high h ∙ more (together low (lifted high)) (together low high) (2 ^ 127) (ap (λ (n : ℕ). n * base + low) (lifted-plus high h) ∙ sym (raise 0 high low))
-      go (minus h) = value-below low high w h ∙ less (2 ^ 128) (together low (lifted high)) (together low high) (2 ^ 127) refl (together-below low high w) (raise 0 (lifted high) low ∙ ap (λ (n : ℕ). n * base + low) (lifted-minus high h (w .high-word)))
+      go (plus h) = value-above low high h ∙ more (together low (lifted high)) (together low high) (2 ^ 127) (ap (λ (n : ℕ). n * wordBase + low) (lifted-plus high h) ∙ sym (raise 0 high low))
+      go (minus h) = value-below low high w h ∙ less (2 ^ 128) (together low (lifted high)) (together low high) (2 ^ 127) refl (together-below low high w) (raise 0 (lifted high) low ∙ ap (λ (n : ℕ). n * wordBase + low) (lifted-minus high h (w .high-word)))
 
 module _ (low high low′ high′ : ℕ) (v : AreWords low high) (w : AreWords low′ high′) where
   pub less-is : ltZ (value low high) (value low′ high′) ≡ ltb (together low (lifted high)) (together low′ (lifted high′))
@@ -73,15 +73,15 @@ module _ (low high low′ high′ : ℕ) (v : AreWords low high) (w : AreWords l
 
   -- by the high words where they differ
   pub less-high : lifted high < lifted high′ → ltZ (value low high) (value low′ high′) ≡ true
-  less-high h = less-is ∙ lt-ltb (together low (lifted high)) (together low′ (lifted high′)) (lt-of-lt-of-le (digits-lt h (v .low-word)) (le-add-right (lifted high′ * base) low′))
+  less-high h = less-is ∙ lt-ltb (together low (lifted high)) (together low′ (lifted high′)) (lt-of-lt-of-le (digits-lt h (v .low-word)) (le-add-right (lifted high′ * wordBase) low′))
 
   pub more-high : lifted high′ < lifted high → ltZ (value low high) (value low′ high′) ≡ false
-  more-high h = less-is ∙ le-ltb (together low (lifted high)) (together low′ (lifted high′)) (omega (arith, lt-of-lt-of-le (digits-lt h (w .low-word)) (le-add-right (lifted high * base) low)))
+  more-high h = less-is ∙ le-ltb (together low (lifted high)) (together low′ (lifted high′)) (omega (arith, lt-of-lt-of-le (digits-lt h (w .low-word)) (le-add-right (lifted high * wordBase) low)))
 
   -- by the low words where they do not
   pub less-low : lifted high ≡ lifted high′ → ltZ (value low high) (value low′ high′) ≡ ltb low low′
-  less-low e = less-is ∙ ap (λ (n : ℕ). ltb (together low (lifted high)) (n * base + low′)) (sym e)
-      ∙ one-test (together low (lifted high)) (lifted high * base + low′) low low′ (add-lt-cancel-left (lifted high * base)) (λ h. more (lifted high * base) low low′ h)
+  less-low e = less-is ∙ ap (λ (n : ℕ). ltb (together low (lifted high)) (n * wordBase + low′)) (sym e)
+      ∙ one-test (together low (lifted high)) (lifted high * wordBase + low′) low low′ (add-lt-cancel-left (lifted high * wordBase)) (λ h. more (lifted high * wordBase) low low′ h)
     where
       more : (a b c : ℕ) → b < c → a + b < a + c
       more a b c h = omega (arith, h)

@@ -14,7 +14,7 @@ use mir.Val.{SFits, toZ}
 use mir.ValLaws.{toZ-pos, toZ-neg}
 use Rattle.foundation.specs.Magnitude.{magnitude-mul}
 use Rattle.foundation.specs.Words.{signedLimit}
-use Rattle.definitions.specs.TwoWords.{base, value, inOneWord}
+use Rattle.definitions.specs.TwoWords.{wordBase, value, inOneWord}
 use Rattle.wrapping_theory.specs.Runs.{size-fits}
 use Rattle.wrapping_theory.specs.Words.{together, AreWords, Sign, plus, minus, sign, value-above, value-below}
 
@@ -28,9 +28,9 @@ filled-plus low h = value-above low 0 (omega arith) ∙ ap pos (bare low) ∙ sy
 filled : (m k b n : ℕ) → m ≡ k + b → n < b → m - suc (k + n) ≡ b - suc n
 filled m k b n e h = omega (arith, e, h)
 
-ones-value : (low : ℕ) → low < 2 ^ 64 → value low 18446744073709551615 ≡ negsuc (base - suc low)
+ones-value : (low : ℕ) → low < 2 ^ 64 → value low 18446744073709551615 ≡ negsuc (wordBase - suc low)
 ones-value low h = value-below low 18446744073709551615 (record { low-word = h; high-word = omega arith }) (omega arith)
-    ∙ ap negsuc (filled (2 ^ 128) (18446744073709551615 * base) base low refl h)
+    ∙ ap negsuc (filled (2 ^ 128) (18446744073709551615 * wordBase) wordBase low refl h)
 
 pub filled-minus : (low : ℕ) → signedLimit ≤ low → low < 2 ^ 64 → value low 18446744073709551615 ≡ toZ w64 low
 filled-minus low h k = let back : 2 ^ 64 - suc (2 ^ 64 - suc low) ≡ low = omega (arith, k) in let m : 2 ^ 64 - suc low < signedLimit = omega (arith, h, k) in
@@ -49,15 +49,15 @@ pub above-plus : (low : ℕ) → signedLimit ≤ low → inOneWord (value low 0)
 above-plus low h = ap inOneWord (value-above low 0 (omega arith) ∙ ap pos (bare low)) ∙ not-held (pos low) h
 
 pub below-minus : (low : ℕ) → low < signedLimit → inOneWord (value low 18446744073709551615) ≡ false
-below-minus low h = let l : signedLimit ≤ base - suc low = omega (arith, h) in ap inOneWord (ones-value low (omega (arith, h))) ∙ not-held (negsuc (base - suc low)) l
+below-minus low h = let l : signedLimit ≤ wordBase - suc low = omega (arith, h) in ap inOneWord (ones-value low (omega (arith, h))) ∙ not-held (negsuc (wordBase - suc low)) l
 
 -- any other high word
-far : (m k n : ℕ) → m ≡ k + base → n < k → signedLimit ≤ m - suc n
+far : (m k n : ℕ) → m ≡ k + wordBase → n < k → signedLimit ≤ m - suc n
 far m k n e h = omega (arith, e, h)
 
 some : (low high : ℕ) → (high ≡ 0 → ⊥) → signedLimit ≤ together low high
 some low zero f = absurd (f refl)
-some low (suc high) f = le-trans (lit≤ {n = 1 * base} tt) (le-trans (mul-le-mul-right {m = 1} {n = suc high} base (omega arith)) (le-add-right (suc high * base) low))
+some low (suc high) f = le-trans (lit≤ {n = 1 * wordBase} tt) (le-trans (mul-le-mul-right {m = 1} {n = suc high} wordBase (omega arith)) (le-add-right (suc high * wordBase) low))
 
 pub neither : (low high : ℕ) → AreWords low high → (high ≡ 0 → ⊥) → (high ≡ 18446744073709551615 → ⊥) → inOneWord (value low high) ≡ false
 neither low high w f g = go (sign high)
@@ -65,7 +65,7 @@ neither low high w f g = go (sign high)
     go : Sign high → inOneWord (value low high) ≡ false
     go (plus h) = ap inOneWord (value-above low high h) ∙ not-held (pos (together low high)) (some low high f)
     go (minus h) = ap inOneWord (value-below low high w h) ∙ not-held (negsuc (2 ^ 128 - suc (together low high)))
-        (far (2 ^ 128) (18446744073709551615 * base) (together low high) refl (digits-lt (lt-of-le-ne (omega (arith, w .high-word)) g) (w .low-word)))
+        (far (2 ^ 128) (18446744073709551615 * wordBase) (together low high) refl (digits-lt (lt-of-le-ne (omega (arith, w .high-word)) g) (w .low-word)))
 
 -- ---- the product of two numbers of one word is in range
 pub one-word : (z : ℤ) → SFits w64 z → natAbs z ≤ signedLimit

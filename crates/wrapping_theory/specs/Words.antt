@@ -15,13 +15,13 @@ use mir.ValLaws.{toZ-pos, toZ-neg, toZ-fits, ofZ-toZ}
 use Rattle.foundation.specs.Magnitude.{sub-cases}
 use Rattle.foundation.specs.Polynomial.{var, add, neg, solve}
 use Rattle.foundation.specs.Words.{args, signedLimit}
-use Rattle.definitions.specs.TwoWords.{base, value, remainder, wrapped, lowWord, highWord}
+use Rattle.definitions.specs.TwoWords.{wordBase, value, remainder, wrapped, lowWord, highWord}
 use Rattle.wrapping_theory.specs.Congruence.{Congruent, equal, itself, turned, chained, sum, difference, product, divided, left-over, remainder-below}
 use Rattle.wrapping_theory.specs.Wrapping.{bits-congruent, is-wrapped, exact}
 
 -- two words as one number of 128 bits, without a sign
 abbrev pub together : ℕ → ℕ → ℕ
-together low high = high * base + low
+together low high = high * wordBase + low
 
 -- both are words
 pub record AreWords (low high : ℕ) : Type 0 where
@@ -49,7 +49,7 @@ upper half m n e h k = omega (arith, e, h, k)
 
 pub value-above : (low high : ℕ) → high < signedLimit → value low high ≡ pos (together low high)
 unfolding value
-value-above low high h = ap (λ (z : ℤ). z *ℤ pos base +ℤ pos low) (toZ-pos w64 high h)
+value-above low high h = ap (λ (z : ℤ). z *ℤ pos wordBase +ℤ pos low) (toZ-pos w64 high h)
 
 module _ (low high : ℕ) (w : AreWords low high) where
   pub together-below : together low high < 2 ^ 128
@@ -58,11 +58,11 @@ module _ (low high : ℕ) (w : AreWords low high) where
   pub value-below : signedLimit ≤ high → value low high ≡ negsuc (2 ^ 128 - suc (together low high))
   unfolding value
   value-below h = let k : ℕ = 2 ^ 64 - suc high in let f : suc k + high ≡ 2 ^ 64 = omega (arith, w .high-word) in
-      ap (λ (z : ℤ). z *ℤ pos base +ℤ pos low) (ap (toZ w64) (sym (mirrored (2 ^ 64) high (w .high-word))) ∙ toZ-neg w64 k (upper signedLimit (2 ^ 64) high refl h (w .high-word)))
+      ap (λ (z : ℤ). z *ℤ pos wordBase +ℤ pos low) (ap (toZ w64) (sym (mirrored (2 ^ 64) high (w .high-word))) ∙ toZ-neg w64 k (upper signedLimit (2 ^ 64) high refl h (w .high-word)))
       ∙ below k f
     where
-      whole : (k : ℕ) → k + high ≡ 2 ^ 64 → k * base + high * base ≡ base * base
-      whole k e = sym (add-mul k high base) ∙ ap (λ (n : ℕ). n * base) e
+      whole : (k : ℕ) → k + high ≡ 2 ^ 64 → k * wordBase + high * wordBase ≡ wordBase * wordBase
+      whole k e = sym (add-mul k high wordBase) ∙ ap (λ (n : ℕ). n * wordBase) e
 
       rest : (m a b l n : ℕ) → a + b ≡ m → l + suc n ≡ a → n ≡ m - suc (b + l)
       rest m a b l n e f = omega (arith, e, f)
@@ -74,14 +74,14 @@ module _ (low high : ℕ) (w : AreWords low high) where
       negated zero h = absurd (omega (arith, h))
       negated (suc n) h = refl
 
-      one-at-least : (k : ℕ) → base ≤ suc k * base
-      one-at-least k = mul-le-mul-right {m = 1} {n = suc k} base (omega arith)
+      one-at-least : (k : ℕ) → wordBase ≤ suc k * wordBase
+      one-at-least k = mul-le-mul-right {m = 1} {n = suc k} wordBase (omega arith)
 
-      below : (k : ℕ) → suc k + high ≡ 2 ^ 64 → negsuc k *ℤ pos base +ℤ pos low ≡ negsuc (2 ^ 128 - suc (together low high))
-      below k e = negated (suc k * base) (lt-of-lt-of-le (lit< {n = base} tt) (one-at-least k))
-          ∙ sub-cases low (suc k * base) (λ z. z ≡ negsuc (2 ^ 128 - suc (together low high)))
-          (λ n p. ap negsuc (rest (2 ^ 128) (suc k * base) (high * base) low n (whole (suc k) e) p))
-          (λ n p. absurd (never base (suc k * base) low n (one-at-least k) (w .low-word) p))
+      below : (k : ℕ) → suc k + high ≡ 2 ^ 64 → negsuc k *ℤ pos wordBase +ℤ pos low ≡ negsuc (2 ^ 128 - suc (together low high))
+      below k e = negated (suc k * wordBase) (lt-of-lt-of-le (lit< {n = wordBase} tt) (one-at-least k))
+          ∙ sub-cases low (suc k * wordBase) (λ z. z ≡ negsuc (2 ^ 128 - suc (together low high)))
+          (λ n p. ap negsuc (rest (2 ^ 128) (suc k * wordBase) (high * wordBase) low n (whole (suc k) e) p))
+          (λ n p. absurd (never wordBase (suc k * wordBase) low n (one-at-least k) (w .low-word) p))
 
   together-fits : Fits w128 (together low high)
   together-fits = record { fits = together-below }
@@ -93,7 +93,7 @@ module _ (low high : ℕ) (w : AreWords low high) where
       go : Sign high → value low high ≡ toZ w128 (together low high)
       go (plus h) = value-above low high h ∙ sym (toZ-pos w128 (together low high) (digits-lt h (w .low-word)))
       go (minus h) = value-below h ∙ sym (ap (toZ w128) (sym (mirrored (2 ^ 128) (together low high) together-below))
-          ∙ toZ-neg w128 (2 ^ 128 - suc (together low high)) (upper (2 ^ 127) (2 ^ 128) (together low high) refl (le-trans (mul-le-mul-right base h) (le-add-right (high * base) low)) together-below))
+          ∙ toZ-neg w128 (2 ^ 128 - suc (together low high)) (upper (2 ^ 127) (2 ^ 128) (together low high) refl (le-trans (mul-le-mul-right wordBase h) (le-add-right (high * wordBase) low)) together-below))
 
   pub value-fits : SFits w128 (value low high)
   value-fits = subst (SFits w128) (sym value-bits) (toZ-fits w128 (together low high) together-fits)
@@ -111,36 +111,43 @@ module _ (low high low′ high′ : ℕ) (v : AreWords low high) (w : AreWords l
   same-bits = sym (ofZ-toZ w128 (together low high) (together-fits low high v)) ∙ ap (ofZ w128) (sym (value-bits low high v) ∙ e ∙ value-bits low′ high′ w) ∙ ofZ-toZ w128 (together low′ high′) (together-fits low′ high′ w)
 
   pub same-low : low ≡ low′
-  same-low = sym (digits-mod high (v .low-word)) ∙ ap (λ (n : ℕ). n % base) same-bits ∙ digits-mod high′ (w .low-word)
+  same-low = sym (digits-mod high (v .low-word)) ∙ ap (λ (n : ℕ). n % wordBase) same-bits ∙ digits-mod high′ (w .low-word)
 
   pub same-high : high ≡ high′
-  same-high = sym (digits-div high (v .low-word)) ∙ ap (λ (n : ℕ). n / base) same-bits ∙ digits-div high′ (w .low-word)
+  same-high = sym (digits-div high (v .low-word)) ∙ ap (λ (n : ℕ). n / wordBase) same-bits ∙ digits-div high′ (w .low-word)
 
 -- ---- the words of a number's value, and the value of a whole number's words
 module _ (low high : ℕ) (w : AreWords low high) where
-  value-left : remainder (base * base) (value low high) ≡ together low high
+  value-left : remainder (wordBase * wordBase) (value low high) ≡ together low high
   value-left = go (sign high)
     where
       turned-back : (m n : ℕ) → n < m → m - suc ((m - suc n) % m) ≡ n
       turned-back m n h = let less : m - suc n < m = omega (arith, h) in ap (λ (k : ℕ). m - suc k) (mod-eq-of-lt less) ∙ mirrored m n h
 
-      go : Sign high → remainder (base * base) (value low high) ≡ together low high
-      go (plus h) = ap (remainder (base * base)) (value-above low high h) ∙ mod-eq-of-lt (together-below low high w)
-      go (minus h) = ap (remainder (base * base)) (value-below low high w h) ∙ turned-back (base * base) (together low high) (together-below low high w)
+      go : Sign high → remainder (wordBase * wordBase) (value low high) ≡ together low high
+      go (plus h) = ap (remainder (wordBase * wordBase)) (value-above low high h) ∙ mod-eq-of-lt (together-below low high w)
+      go (minus h) = ap (remainder (wordBase * wordBase)) (value-below low high w h) ∙ turned-back (wordBase * wordBase) (together low high) (together-below low high w)
 
   pub low-word-is : lowWord (value low high) ≡ low
-  low-word-is = ap (λ (n : ℕ). n % base) value-left ∙ digits-mod high (w .low-word)
+  low-word-is = ap (λ (n : ℕ). n % wordBase) value-left ∙ digits-mod high (w .low-word)
 
   pub high-word-is : highWord (value low high) ≡ high
-  high-word-is = ap (λ (n : ℕ). n / base) value-left ∙ digits-div high (w .low-word)
+  high-word-is = ap (λ (n : ℕ). n / wordBase) value-left ∙ digits-div high (w .low-word)
 
 module _ (z : ℤ) where
   pub are-words : AreWords (lowWord z) (highWord z)
-  are-words = record { low-word = mod-lt (remainder (base * base) z) (lit< tt); high-word = div-lt-iff-lt-mul (lit< {n = base} tt) .1 (remainder-below (base * base) (lit< tt) z) }
+  are-words = record { low-word = mod-lt (remainder (wordBase * wordBase) z) (lit< tt); high-word = div-lt-iff-lt-mul (lit< {n = wordBase} tt) .1 (remainder-below (wordBase * wordBase) (lit< tt) z) }
 
   -- the representative, and in range the number itself
   pub value-of-words : value (lowWord z) (highWord z) ≡ wrapped w128 z
-  value-of-words = result-wrapped (lowWord z) (highWord z) are-words (chained (equal (ap pos (div-add-mod' (remainder (base * base) z) base))) (left-over (base * base) (lit< tt) z))
+  value-of-words = result-wrapped (lowWord z) (highWord z) are-words (chained (equal (ap pos (div-add-mod' (remainder (wordBase * wordBase) z) wordBase))) (left-over (wordBase * wordBase) (lit< tt) z))
+
+  -- a whole number and its representative have the same words
+  pub wrapped-low : lowWord (wrapped w128 z) ≡ lowWord z
+  wrapped-low = ap lowWord (sym value-of-words) ∙ low-word-is (lowWord z) (highWord z) are-words
+
+  pub wrapped-high : highWord (wrapped w128 z) ≡ highWord z
+  wrapped-high = ap highWord (sym value-of-words) ∙ high-word-is (lowWord z) (highWord z) are-words
 
   pub value-of-words-exact : SFits w128 z → value (lowWord z) (highWord z) ≡ z
   value-of-words-exact f = value-of-words ∙ exact w128 f
