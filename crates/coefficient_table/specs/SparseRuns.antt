@@ -27,9 +27,6 @@ module _ {starts columns : List ℕ} {values : List ℤ} (h : AreSparseRows star
   pub starts-ordered : (n : ℕ) → n < 27 → getD starts n 0 ≤ getD starts (n + 1) 0
   starts-ordered = compared (λ s c v n. getD s n 0) (λ s c v n. getD s (n + 1) 0) 27 tt
 
-  pub row-short : (n : ℕ) → n < 27 → getD starts (n + 1) 0 ≤ getD starts n 0 + 20
-  row-short = compared (λ s c v n. getD s (n + 1) 0) (λ s c v n. getD s n 0 + 20) 27 tt
-
   pub row-inside : (n : ℕ) → n < 27 → getD starts (n + 1) 0 ≤ 112
   row-inside = compared (λ s c v n. getD s (n + 1) 0) (λ s c v n. 112) 27 tt
 

@@ -1,9 +1,10 @@
 -- What one local's bits stand for, with a running bound: put together operation by operation, as the code computes.
 use mathlib.Core.Path.{_≡_, sym, _∙_, ap₂, subst}
-use Prim.Native.Nat.{ℕ, _+_, _*_, _^_, _≤_, _<_}
+use Prim.Native.Nat.{ℕ, _+_, _*_, _≤_, _<_}
 use native.Mathlib.Nat.{le-trans, le-of-eq, add-le-add, mul-le-mul}
 use lib.Dec.{T, ltb, ltb→lt}
 use lib.IntN.{ℤ, negℤ, natAbs, _+ℤ_, _-ℤ_, _*ℤ_}
+use lib.Signed.{mag}
 use mir.Syntax.{w64}
 use mir.Val.{SFits, toZ, ofZ}
 use mir.Facts.{toZ-ofZ}
@@ -19,6 +20,17 @@ pub record Rep (b : ℕ) (z : ℤ) (n : ℕ) : Type 0 where
 -- a parameter, a field or an element, whose bits are those of z
 pub leaf : (n : ℕ) (z : ℤ) → natAbs z ≤ n → T (ltb n signedLimit) → Rep (ofZ w64 z) z n
 leaf n z h t = let k = ltb→lt n signedLimit t in record { value = toZ-ofZ (sfits-below z h k); magnitude = h; room = k }
+
+-- a call's result that equals z
+pub answered : {r z : ℤ} (n : ℕ) → r ≡ z → natAbs z ≤ n → T (ltb n signedLimit) → Rep (ofZ w64 r) z n
+answered {z = z} n e h t = subst (λ (y : ℤ). Rep (ofZ w64 y) z n) (sym e) (leaf n z h t)
+
+-- one whose range is known is read back whole
+pub read-back : {r z : ℤ} → mag r < signedLimit → r ≡ z → toZ w64 (ofZ w64 r) ≡ z
+read-back h e = toZ-ofZ (record { sfits = h }) ∙ e
+
+pub small : {b n : ℕ} {z : ℤ} → Rep b z n → natAbs (toZ w64 b) ≤ n
+small {n = n} u = subst (λ (y : ℤ). natAbs y ≤ n) (sym (u .value)) (u .magnitude)
 
 -- a larger bound will do
 pub weaken : {b m n : ℕ} {z : ℤ} → Rep b z m → m ≤ n → n < signedLimit → Rep b z n

@@ -2,6 +2,7 @@ pub mod Ring
 pub mod Magnitude
 pub mod Order
 pub mod Lists
+pub mod Filled
 pub mod Laid
 pub mod Least
 pub mod Polynomial

@@ -3,87 +3,14 @@
 // An inner crate: the inspector's other crates use it, callers of the inspector do not. It refuses nothing, so whoever calls it has tested
 // the coordinates. It offers `coefficients`.
 ghost use mathlib.Core.Path.{_≡_};
-ghost use Prim.Native.Nat.{_<_, _≤_};
-ghost use Rattle.foundation.specs.Lists.{tabulate};
-ghost use Rattle.foundation.specs.Polynomial.{integers};
-ghost use Rattle.definitions.specs.Coefficients.{row, dot, coefficients};
-ghost use Rattle.narrow_volumes.specs.Range.{narrowRange, InRange, volumeLimit};
-ghost use Rattle.narrow_coefficients.specs.Rows.{FirstRows};
-ghost use Rattle.coefficient_table.specs.Sparse.{AreSparseRows};
-
-// Row n of the table against the twenty volumes: the terms of its non-zero places, added up from the last to the first, as the definition
-// nests its sum.
-fn row(
-    starts: &[usize; 28],
-    columns: &[usize; 112],
-    values: &[i64; 112],
-    n: usize,
-    v: &[i64; 20],
-) -> i64
-    requires { ⌜ AreSparseRows (now starts) (now columns) (now values) ⌝ ∗ ⌜ n < 27 ⌝ ∗ ⌜ InRange volumeLimit (now v) ⌝ }
-    ensures { λ r. ⌜ r ≡ dot integers (row n) (now (v .entry)) ⌝ }
-{
-    let first = starts[n];
-    let mut sum: i64 = 0;
-    let mut k = starts[n + 1];
-    while first < k {
-        k -= 1;
-        let column = columns[k];
-        sum = values[k] * v[column] + sum;
-    }
-    sum
-}
-
-// Rows first up to end against the volumes, each into its place of out; the rows before them stand there.
-fn put_rows(
-    starts: &[usize; 28],
-    columns: &[usize; 112],
-    values: &[i64; 112],
-    first: usize,
-    end: usize,
-    v: &[i64; 20],
-    out: &mut [i64; 27],
-)
-    requires { ⌜ AreSparseRows (now starts) (now columns) (now values) ⌝ ∗ ⌜ (first ≤ end) × (end ≤ 27) ⌝ }
-    requires { ⌜ InRange volumeLimit (now v) ⌝ ∗ ⌜ FirstRows (now v) first (now out) ⌝ }
-    ensures { λ _. ⌜ FirstRows (now (v .entry)) end (now (out .exit)) ⌝ }
-{
-    let mut n = first;
-    while n < end {
-        let sum = row(starts, columns, values, n, v);
-        out[n] = sum;
-        n += 1;
-    }
-}
-
-// All 27 rows: the corners', the edges', the faces' and the centre's. With the ends of each of the four written out, the compiler writes out
-// the rows and, knowing their lists, their sums.
-fn rows(
-    starts: &[usize; 28],
-    columns: &[usize; 112],
-    values: &[i64; 112],
-    v: &[i64; 20],
-) -> [i64; 27]
-    requires { ⌜ AreSparseRows (now starts) (now columns) (now values) ⌝ ∗ ⌜ InRange volumeLimit (now v) ⌝ }
-    ensures { λ r. ⌜ r ≡ tabulate (λ n. dot integers (row n) (now (v .entry))) 0 27 ⌝ }
-{
-    let mut out = [0i64; 27];
-    put_rows(starts, columns, values, 0, 8, v, &mut out);
-    put_rows(starts, columns, values, 8, 20, v, &mut out);
-    put_rows(starts, columns, values, 20, 26, v, &mut out);
-    put_rows(starts, columns, values, 26, 27, v, &mut out);
-    out
-}
+ghost use Rattle.definitions.specs.Coefficients.{coefficients};
+ghost use Rattle.narrow_volumes.specs.Range.{narrowRange, InRange};
 
 // The 27 coefficients, times 8, in the order of their numbers. The eight points p are in place order, x, y, z of each. All of out is written.
 pub fn coefficients(p: &[i32; 24], out: &mut [i64; 27])
     requires { ⌜ InRange narrowRange (now p) ⌝ }
     ensures { λ _. ⌜ now (out .exit) ≡ coefficients (now (p .entry)) ⌝ }
 {
-    let lists = coefficient_table::sparse::lists();
-    let starts = lists.starts;
-    let columns = lists.columns;
-    let values = lists.values;
     let v = narrow_volumes::volumes(p);
-    *out = rows(&starts, &columns, &values, &v);
+    *out = coefficient_rows::rows(&v);
 }

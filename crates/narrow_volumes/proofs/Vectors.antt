@@ -1,7 +1,7 @@
 -- Vectors whose coordinates are held in three locals, and the determinant of three such.
 use mathlib.Core.Path.{_≡_, _∙_}
 use mathlib.Core.List.{List, [], _∷_}
-use Prim.Native.Nat.{ℕ, _^_, _<_, _≤_}
+use Prim.Native.Nat.{ℕ, _<_, _≤_}
 use native.Mathlib.Nat.{le-trans}
 use lib.Dec.{lit≤}
 use lib.IntN.{ℤ, natAbs}
@@ -10,11 +10,10 @@ use mir.Syntax.{w64}
 use mir.Val.{toZ, ofZ}
 use Rattle.foundation.specs.Polynomial.{integers}
 use Rattle.foundation.specs.Words.{Within, signedLimit}
-use Rattle.foundation.specs.Held.{Rep}
+use Rattle.foundation.specs.Held.{Rep, answered, small, read-back}
 use Rattle.definitions.specs.Jacobian.{nodesOf, det}
 use Rattle.definitions.specs.Coefficients.{edge, middle}
 use Rattle.narrow_volumes.specs.Range.{narrowRange, InRange, vector, middleLimit}
-use Rattle.narrow_volumes.specs.Results.{answered, small, read-back}
 use Rattle.narrow_volumes.specs.Sizes.{edge-small, middle-small}
 
 -- the bits x, y, z hold the vector u

@@ -1,12 +1,16 @@
--- The rows, by their lists, against the volumes of the points.
+-- The rows against the volumes of the points, which are within the rows' limits.
 use borrow.Author.Needs.{needs}
 use mathlib.Core.Path.{_≡_, sym, subst}
 use mathlib.Core.List.{List}
+use Prim.Native.Nat.{_≤_}
+use native.Mathlib.Nat.{le-trans}
+use lib.Dec.{lit≤}
 use lib.IntN.{ℤ}
 use Rattle.foundation.specs.Lists.{tabulate}
 use Rattle.foundation.specs.Polynomial.{integers}
 use Rattle.definitions.specs.Jacobian.{nodesOf}
 use Rattle.definitions.specs.Coefficients.{volumes, row, dot, coefficients}
+use Rattle.coefficient_rows.specs.Limits.{limit-cases, WithinLimits}
 use Rattle.narrow_volumes.specs.Range.{InRange, volumeLimit}
 use Rattle.narrow_volumes.specs.Sizes.{volumes-small}
 use Rattle.narrow_coefficients.proofs.coefficients.Statement.{statement}
@@ -17,21 +21,17 @@ coefficients-are : (xs : List ℤ) {vs cs : List ℤ} → vs ≡ volumes integer
 unfolding coefficients
 coefficients-are xs {cs = cs} p q = subst (λ ws. cs ≡ tabulate (λ n. dot integers (row n) ws) 0 27) p q
 
-lists-requires : tie.Need-lists-requires
-lists-requires c κs = search needs
+within-limits : {vs : List ℤ} → InRange volumeLimit vs → WithinLimits vs
+within-limits h = record { small = λ i. le-trans (h .small i) (limit-cases (λ m. volumeLimit ≤ m) (lit≤ tt) (lit≤ tt) i) }
 
 volumes-requires : tie.Need-volumes-requires
 volumes-requires c κs = search needs
 
--- what is known after the call of volumes, seen from the call of rows
-abbrev after-volumes : tie.After-v → tie.After-volumes
-after-volumes c = c .before .before .before .before
-
 rows-requires : tie.Need-rows-requires
-rows-requires c κs = let d = after-volumes c in let l = d .before .before .before .before in (l .lists .ensures, subst (InRange volumeLimit) (sym (d .volumes .ensures)) (volumes-small (l .before .pre)))
+rows-requires c κs = let d = c .before in within-limits (subst (InRange volumeLimit) (sym (d .volumes .ensures)) (volumes-small (d .before .pre)))
 
 returns : tie.Need-returns
-returns c = let d = after-volumes (c .before) in coefficients-are (d .before .before .before .before .before .args .p .now) (d .volumes .ensures) (c .rows .ensures)
+returns c = let d = c .before .before in coefficients-are (d .before .args .p .now) (d .volumes .ensures) (c .rows .ensures)
 
 pub coefficients-spec : {M : Type 1} → statement M
-coefficients-spec = tie.close (tie.spec lists-requires volumes-requires rows-requires returns)
+coefficients-spec = tie.close (tie.spec volumes-requires rows-requires returns)

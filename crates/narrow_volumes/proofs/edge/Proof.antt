@@ -3,10 +3,9 @@ use borrow.Author.Needs.{needs}
 use Prim.Native.Nat.{_+_, _-_, _*_}
 use mir.Syntax.{w64}
 use mir.Val.{ofZ}
-use Rattle.foundation.specs.Held.{Rep, sub, sub-fits}
+use Rattle.foundation.specs.Held.{Rep, sub, sub-fits, answered}
 use Rattle.definitions.specs.Jacobian.{nodesOf}
 use Rattle.narrow_volumes.specs.Range.{narrowRange}
-use Rattle.narrow_volumes.specs.Results.{answered}
 use Rattle.narrow_volumes.proofs.edge.Statement.{statement}
 use Rattle.narrow_volumes.proofs.edge.Tie as tie
 

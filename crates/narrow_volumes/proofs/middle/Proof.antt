@@ -3,11 +3,10 @@ use borrow.Author.Needs.{needs}
 use mir.Syntax.{w64}
 use mir.Val.{ofZ}
 use Rattle.foundation.specs.Polynomial.{integers}
-use Rattle.foundation.specs.Held.{Rep, add, add-fits}
+use Rattle.foundation.specs.Held.{Rep, add, add-fits, answered}
 use Rattle.definitions.specs.Jacobian.{nodesOf}
 use Rattle.definitions.specs.Coefficients.{edge}
 use Rattle.narrow_volumes.specs.Range.{edgeLimit}
-use Rattle.narrow_volumes.specs.Results.{answered}
 use Rattle.narrow_volumes.specs.Sizes.{edge-small}
 use Rattle.narrow_volumes.proofs.middle.Statement.{statement}
 use Rattle.narrow_volumes.proofs.middle.Tie as tie

@@ -2,7 +2,7 @@
 use borrow.Author.Needs.{needs}
 use mathlib.Core.Path.{_≡_}
 use mathlib.Core.List.{List, [], _∷_}
-use Prim.Native.Nat.{ℕ, _^_, _<_}
+use Prim.Native.Nat.{ℕ, _<_}
 use native.Mathlib.Omega.{arith}
 use lib.ListN.{getD}
 use lib.IntN.{ℤ}
@@ -11,9 +11,9 @@ use mir.Syntax.{w64}
 use mir.Val.{toZ, ofZ}
 use Rattle.foundation.specs.Words.{signedLimit}
 use Rattle.foundation.specs.Polynomial.{integers}
+use Rattle.foundation.specs.Held.{read-back}
 use Rattle.definitions.specs.Jacobian.{nodesOf}
 use Rattle.definitions.specs.Coefficients.{cornerVolume, edgeVolume, cornerTetrahedra, edgeTetrahedra}
-use Rattle.narrow_volumes.specs.Results.{read-back}
 use Rattle.narrow_volumes.proofs.volumes.Statement.{statement}
 use Rattle.narrow_volumes.proofs.volumes.Tie as tie
 

@@ -4,9 +4,9 @@ use Prim.Native.Nat.{_+_, _≤_}
 use native.Mathlib.Omega.{arith}
 use lib.ListN.{getD}
 use Rattle.coefficient_table.specs.SparseRuns.{starts-ordered, row-inside}
-use Rattle.narrow_coefficients.proofs.Sums.{Summed, none-left, column-inside, product-fits, sum-fits, sum-held, row-summed}
-use Rattle.narrow_coefficients.proofs.row.Statement.{statement}
-use Rattle.narrow_coefficients.proofs.row.Tie as tie
+use Rattle.coefficient_rows.proofs.Sums.{Summed, none-left, column-inside, product-fits, sum-fits, sum-held, row-summed}
+use Rattle.coefficient_rows.proofs.row.Statement.{statement}
+use Rattle.coefficient_rows.proofs.row.Tie as tie
 
 abbrev Inv-loop : tie.InvT-loop
 Inv-loop starts columns values n v first sum₀ k₀ sum k = (first ≤ k) × (k ≤ k₀) × (k₀ ≤ 112) × Summed columns values v sum k k₀

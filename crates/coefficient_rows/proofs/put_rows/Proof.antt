@@ -3,10 +3,11 @@ use borrow.Author.Needs.{needs}
 use mathlib.Core.Path.{_≡_, subst}
 use Prim.Native.Nat.{ℕ, _-_, _≤_}
 use native.Mathlib.Omega.{arith}
-use Rattle.narrow_coefficients.specs.Rows.{FirstRows, one-row-more}
-use Rattle.narrow_volumes.specs.Results.{read-back}
-use Rattle.narrow_coefficients.proofs.put_rows.Statement.{statement}
-use Rattle.narrow_coefficients.proofs.put_rows.Tie as tie
+use Rattle.foundation.specs.Filled.{one-filled}
+use Rattle.foundation.specs.Held.{read-back}
+use Rattle.coefficient_rows.specs.Rows.{FirstRows}
+use Rattle.coefficient_rows.proofs.put_rows.Statement.{statement}
+use Rattle.coefficient_rows.proofs.put_rows.Tie as tie
 
 abbrev Inv-loop : tie.InvT-loop
 Inv-loop starts columns values first end v out₀ n₀ out n = (n ≤ end) × FirstRows v n out
@@ -33,7 +34,7 @@ loop-less : tie.Need-loop-less Inv-loop μ-loop
 loop-less c = search needs
 
 loop-again : tie.Need-loop-again Inv-loop μ-loop
-loop-again c = let l = c .before .before in (omega arith, one-row-more (l .loop .inv .1) (omega arith) (read-back (c .row .ok) (c .row .ensures)))
+loop-again c = let l = c .before .before in (omega arith, one-filled _ (l .loop .inv .1) (omega arith) (read-back (c .row .ok) (c .row .ensures)))
 
 returns : tie.Need-returns Inv-loop μ-loop
 returns c = let l = c .before in let e : l .loop .n ≡ l .before .args .end = omega arith in subst (λ (n : ℕ). FirstRows (l .before .args .v .now) n (l .loop .out)) e (l .loop .inv .1)
