@@ -1,12 +1,11 @@
 -- How large the volumes may be: every row of the table against such volumes fits a word, added up from any place to its end.
-use mathlib.Core.Bool.{Bool, true, false}
 use mathlib.Core.List.{List, [], _∷_}
 use Prim.Native.Nat.{ℕ, _+_, _*_, _^_, _<_, _≤_}
 use lib.Dec.{ltb, ltb→lt}
 use lib.ListN.{getD}
 use lib.IntN.{ℤ, pos, natAbs}
 use Rattle.foundation.specs.Lists.{below}
-use Rattle.foundation.specs.Words.{signedLimit}
+use Rattle.foundation.specs.Words.{signedLimit, split}
 use Rattle.coefficient_table.specs.Sparse.{Entry, sparseRow}
 
 -- a corner's volume is at most the first, an edge's at most the second
@@ -18,14 +17,7 @@ edgeLimit = 3 * 2 ^ 56
 
 -- the limit of volume i, counted from 0
 abbrev pub limitAt : ℕ → ℕ
-limitAt i = elim (ltb i 8) [ true ↦ cornerLimit | false ↦ edgeLimit ]
-
-pub limit-cases : (P : ℕ → Type 0) → P cornerLimit → P edgeLimit → (i : ℕ) → P (limitAt i)
-limit-cases P c e i = go (ltb i 8)
-  where
-    go : (b : Bool) → P (elim b [ true ↦ cornerLimit | false ↦ edgeLimit ])
-    go true = c
-    go false = e
+limitAt = split 8 cornerLimit edgeLimit
 
 pub record WithinLimits (vs : List ℤ) : Type 0 where
   pub small : (i : ℕ) → natAbs (getD vs i (pos 0)) ≤ limitAt i

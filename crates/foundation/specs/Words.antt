@@ -1,12 +1,15 @@
 -- What a run of signed 64-bit operations holds: each local keeps the low bits of a result and reads them back.
 -- Where the computed bound of every part fits, nothing is lost.
 use mathlib.Core.Path.{_≡_, refl, sym, _∙_, ap, ap₂, subst}
-use mathlib.Core.Bool.{Bool, _&&_}
-use mathlib.Core.List.{List}
-use Prim.Native.Nat.{ℕ, _<_, _≤_, _^_, zero-le}
+use mathlib.Core.Bool.{Bool, true, false, _&&_}
+use mathlib.Core.List.{List, _++_}
+use Prim.Native.Nat.{ℕ, _+_, _-_, _<_, _≤_, _^_, zero-le}
 use native.Mathlib.Nat.{le-trans, le-refl, le-suc, lt-of-le-of-lt}
+use native.Mathlib.Omega.{arith}
+use borrow.Author.Tests.{ltb-true, ltb-false}
 use lib.Dec.{T, ltb, ltb→lt}
-use lib.ListN.{getD}
+use lib.ListN.{getD, length, List·getD-append}
+use lib.Seq.{getD-append-add}
 use lib.IntN.{ℤ, pos, negsuc, natAbs, _+ℤ_, _-ℤ_, _*ℤ_}
 use lib.Signed.{mag}
 use mir.Syntax.{w64}
@@ -120,3 +123,24 @@ Within b xs = All (λ x. natAbs x ≤ b) xs
 
 pub within : (b : ℕ) (xs : List ℤ) → Within b xs → (i : ℕ) → natAbs (args xs i) ≤ b
 within b xs h i = all-getD-default (λ x. natAbs x ≤ b) xs (pos 0) i zero-le h
+
+-- ---- with one bound for the first k of them and another for the rest
+abbrev pub split : ℕ → ℕ → ℕ → ℕ → ℕ
+split k b c i = elim (ltb i k) [ true ↦ b | false ↦ c ]
+
+pub split-cases : (P : ℕ → Type 0) {b c : ℕ} → P b → P c → (k i : ℕ) → P (split k b c i)
+split-cases P {b} {c} p q k i = go (ltb i k)
+  where
+    go : (t : Bool) → P (elim t [ true ↦ b | false ↦ c ])
+    go true = p
+    go false = q
+
+pub within-split : (b c : ℕ) (xs ys : List ℤ) → Within b xs → Within c ys → (i : ℕ) → natAbs (args (xs ++ ys) i) ≤ split (length xs) b c i
+within-split b c xs ys h k i = go (ltb i (length xs)) refl
+  where
+    back : length xs ≤ i → length xs + (i - length xs) ≡ i
+    back l = omega (arith, l)
+
+    go : (t : Bool) → ltb i (length xs) ≡ t → natAbs (args (xs ++ ys) i) ≤ elim t [ true ↦ b | false ↦ c ]
+    go true e = subst (λ (z : ℤ). natAbs z ≤ b) (sym (List·getD-append xs ys (pos 0) i (ltb-true i (length xs) e))) (within b xs h i)
+    go false e = subst (λ (z : ℤ). natAbs z ≤ c) (sym (ap (args (xs ++ ys)) (sym (back (ltb-false i (length xs) e))) ∙ getD-append-add xs ys (i - length xs) (pos 0))) (within c ys k (i - length xs))

@@ -8,7 +8,7 @@ ghost use Prim.Native.Nat.{_≤_};
 ghost use lib.ListN.{length};
 ghost use Rattle.definitions.specs.Limits.{base};
 ghost use Rattle.definitions.specs.Mesh.{inspection, reportAfter, boundsOf};
-ghost use Rattle.narrow_volumes.specs.Range.{InRange};
+ghost use Rattle.element_vectors.specs.Range.{InRange};
 ghost use Rattle.search_theory.specs.Bounds.{boundsAt};
 ghost use Rattle.narrow_bounds.specs.Meaning.{extremesOf};
 ghost use Rattle.inspector.specs.Meaning.{inspectionHeld, boundsHeld};

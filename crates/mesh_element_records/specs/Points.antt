@@ -14,7 +14,8 @@ use Rattle.expansion_theory.specs.Expansion.{length-coefficients}
 use Rattle.expansion_theory.specs.Size.{whole-size}
 use Rattle.search_theory.specs.Meaning.{Small}
 use Rattle.narrow_rows.specs.Word.{largest}
-use Rattle.narrow_volumes.specs.Range.{narrowRange, InRange}
+use Rattle.element_vectors.specs.Range.{InRange}
+use Rattle.narrow_volumes.specs.Range.{narrowRange}
 
 -- the largest magnitude of a coefficient of the whole
 abbrev size : ℕ

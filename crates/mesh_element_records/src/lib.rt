@@ -6,7 +6,7 @@ ghost use lib.ListN.{length};
 ghost use Rattle.definitions.specs.Limits.{base};
 ghost use Rattle.definitions.specs.Record.{recordOf};
 ghost use Rattle.definitions.specs.Mesh.{elementRecord};
-ghost use Rattle.narrow_volumes.specs.Range.{InRange};
+ghost use Rattle.element_vectors.specs.Range.{InRange};
 use limits::RECORD_WORDS;
 use mesh_elements::Element;
 

@@ -4,7 +4,8 @@
 // the coordinates. It offers `coefficients`.
 ghost use mathlib.Core.Path.{_≡_};
 ghost use Rattle.definitions.specs.Coefficients.{coefficients};
-ghost use Rattle.narrow_volumes.specs.Range.{narrowRange, InRange};
+ghost use Rattle.element_vectors.specs.Range.{InRange};
+ghost use Rattle.narrow_volumes.specs.Range.{narrowRange};
 
 // The 27 coefficients, times 8, in the order of their numbers. The eight points p are in place order, x, y, z of each. All of out is written.
 pub fn coefficients(p: &[i32; 24], out: &mut [i64; 27])

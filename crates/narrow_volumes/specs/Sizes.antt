@@ -1,36 +1,24 @@
--- Magnitudes of edges, of sums of two edges and of volumes, computed from the limit on coordinates.
+-- Magnitudes of volumes, computed from the range of coordinates.
 use mathlib.Core.List.{List, map}
-use Prim.Native.Nat.{ℕ, _+_, _*_, _≤_}
+use Prim.Native.Nat.{ℕ, _≤_}
 use native.Mathlib.Nat.{le-trans}
 use lib.Dec.{lit≤}
 use lib.IntN.{ℤ, natAbs}
 use Rattle.foundation.specs.Lists.{all-append, all-image, all-every}
-use Rattle.foundation.specs.Polynomial.{Expr, var, integers, expressions, eval}
-use Rattle.foundation.specs.Bound.{bound, bound-is}
-use Rattle.foundation.specs.Words.{args, within}
-use Rattle.definitions.specs.Jacobian.{Nodes, nodesOf}
-use Rattle.definitions.specs.Coefficients.{edge, middle, cornerVolume, edgeVolume, volumes, cornerTetrahedra, edgeTetrahedra}
-use Rattle.narrow_volumes.specs.Range.{narrowRange, InRange, volumeLimit, edgeLimit, middleLimit}
-
--- coordinates as unknowns
-abbrev unknowns : Nodes Expr
-unknowns k e = var (3 * k + e)
+use Rattle.foundation.specs.Polynomial.{integers, expressions}
+use Rattle.foundation.specs.Words.{within}
+use Rattle.definitions.specs.Jacobian.{nodesOf}
+use Rattle.definitions.specs.Coefficients.{cornerVolume, edgeVolume, volumes, cornerTetrahedra, edgeTetrahedra}
+use Rattle.element_vectors.specs.Range.{InRange}
+use Rattle.element_vectors.specs.Sizes.{unknowns, bounded}
+use Rattle.narrow_volumes.specs.Range.{narrowRange, volumeLimit}
 
 module _ {xs : List ℤ} (h : InRange narrowRange xs) where
-  bounded : (f : Expr) → natAbs (eval (args xs) f) ≤ bound (λ _. narrowRange) f
-  bounded = bound-is (args xs) (λ _. narrowRange) (h .small)
-
-  pub edge-small : (a b e : ℕ) → natAbs (edge integers (nodesOf xs) a b e) ≤ edgeLimit
-  edge-small a b e = bounded (edge expressions unknowns a b e)
-
-  pub middle-small : (a b c e : ℕ) → natAbs (middle integers (nodesOf xs) a b c e) ≤ middleLimit
-  middle-small a b c e = bounded (middle expressions unknowns a b c e)
-
   corner-small : (t : List ℕ) → natAbs (cornerVolume integers (nodesOf xs) t) ≤ volumeLimit
-  corner-small t = le-trans (bounded (cornerVolume expressions unknowns t)) (lit≤ tt)
+  corner-small t = le-trans (bounded h (cornerVolume expressions unknowns t)) (lit≤ tt)
 
   edge-volume-small : (t : List ℕ) → natAbs (edgeVolume integers (nodesOf xs) t) ≤ volumeLimit
-  edge-volume-small t = le-trans (bounded (edgeVolume expressions unknowns t)) (lit≤ tt)
+  edge-volume-small t = le-trans (bounded h (edgeVolume expressions unknowns t)) (lit≤ tt)
 
   pub volumes-small : InRange volumeLimit (volumes integers (nodesOf xs))
   volumes-small = record {

@@ -1,54 +1,14 @@
 // An inner crate, for `narrow_coefficients`. The twenty volumes: J at the corners and four times J at the edge middles, each a determinant of three vectors. Nodes go by their numbers, 1 to 8.
 ghost use mathlib.Core.Path.{_≡_};
 ghost use mathlib.Core.List.{[], _∷_};
-ghost use Prim.Native.Nat.{_-_, _<_};
 ghost use Rattle.foundation.specs.Polynomial.{integers};
-ghost use Rattle.foundation.specs.Words.{Within};
-ghost use Rattle.definitions.specs.Jacobian.{nodesOf, det};
-ghost use Rattle.definitions.specs.Coefficients.{edge, middle, cornerVolume, edgeVolume, volumes};
-ghost use Rattle.narrow_volumes.specs.Range.{narrowRange, InRange, Node, vector, middleLimit};
-
-// Node a's coordinate on axis e.
-fn coordinate(p: &[i32; 24], a: usize, e: usize) -> i64
-    requires { ⌜ Node a × (e < 3) ⌝ }
-    ensures { λ r. ⌜ r ≡ nodesOf (now (p .entry)) (a - 1) e ⌝ }
-{
-    p[3 * (a - 1) + e] as i64
-}
-
-// From node a to node b on axis e.
-fn edge(p: &[i32; 24], a: usize, b: usize, e: usize) -> i64
-    requires { ⌜ InRange narrowRange (now p) ⌝ ∗ ⌜ Node a × Node b × (e < 3) ⌝ }
-    ensures { λ r. ⌜ r ≡ edge integers (nodesOf (now (p .entry))) a b e ⌝ }
-{
-    coordinate(p, b, e) - coordinate(p, a, e)
-}
-
-// From node a to the middle of nodes b and c on axis e, twice.
-fn middle(p: &[i32; 24], a: usize, b: usize, c: usize, e: usize) -> i64
-    requires { ⌜ InRange narrowRange (now p) ⌝ ∗ ⌜ Node a × Node b × Node c × (e < 3) ⌝ }
-    ensures { λ r. ⌜ r ≡ middle integers (nodesOf (now (p .entry))) a b c e ⌝ }
-{
-    edge(p, a, b, e) + edge(p, a, c, e)
-}
-
-// The determinant of the vectors u, v, w, each an edge or a sum of two.
-fn determinant(
-    ux: i64,
-    uy: i64,
-    uz: i64,
-    vx: i64,
-    vy: i64,
-    vz: i64,
-    wx: i64,
-    wy: i64,
-    wz: i64,
-) -> i64
-    requires { ⌜ Within middleLimit (ux ∷ uy ∷ uz ∷ vx ∷ vy ∷ vz ∷ wx ∷ wy ∷ wz ∷ []) ⌝ }
-    ensures { λ r. ⌜ r ≡ det integers (vector ux uy uz) (vector vx vy vz) (vector wx wy wz) ⌝ }
-{
-    ux * (vy * wz - vz * wy) - uy * (vx * wz - vz * wx) + uz * (vx * wy - vy * wx)
-}
+ghost use Rattle.definitions.specs.Jacobian.{nodesOf};
+ghost use Rattle.definitions.specs.Coefficients.{cornerVolume, edgeVolume, volumes};
+ghost use Rattle.element_vectors.specs.Range.{InRange, Node};
+ghost use Rattle.narrow_volumes.specs.Range.{narrowRange};
+use element_vectors::determinant;
+use element_vectors::edge;
+use element_vectors::middle;
 
 // J at corner a, whose neighbours are b, c, d.
 fn at_corner(p: &[i32; 24], a: usize, b: usize, c: usize, d: usize) -> i64

@@ -9,7 +9,7 @@ use Rattle.definitions.specs.Limits.{base}
 use Rattle.definitions.specs.Record.{Fault, faultWords, recordOf}
 use Rattle.definitions.specs.Mesh.{pointsOf, faultOf, elementRecord}
 use Rattle.verdict_theory.specs.Elements.{element-fault, element-points}
-use Rattle.narrow_volumes.specs.Range.{InRange}
+use Rattle.element_vectors.specs.Range.{InRange}
 use Rattle.mesh_elements.specs.declared.Element.{Element}
 use Rattle.mesh_elements.specs.declared.Element.the-variants.{Whole}
 use Rattle.mesh_elements.specs.Meaning.{elementOf}

@@ -8,10 +8,12 @@ use lib.Dec.{lit≤}
 use lib.IntN.{ℤ}
 use Rattle.foundation.specs.Lists.{tabulate}
 use Rattle.foundation.specs.Polynomial.{integers}
+use Rattle.foundation.specs.Words.{split-cases}
 use Rattle.definitions.specs.Jacobian.{nodesOf}
 use Rattle.definitions.specs.Coefficients.{volumes, row, dot, coefficients}
-use Rattle.coefficient_rows.specs.Limits.{limit-cases, WithinLimits}
-use Rattle.narrow_volumes.specs.Range.{InRange, volumeLimit}
+use Rattle.coefficient_rows.specs.Limits.{WithinLimits}
+use Rattle.element_vectors.specs.Range.{InRange}
+use Rattle.narrow_volumes.specs.Range.{volumeLimit}
 use Rattle.narrow_volumes.specs.Sizes.{volumes-small}
 use Rattle.narrow_coefficients.proofs.coefficients.Statement.{statement}
 use Rattle.narrow_coefficients.proofs.coefficients.Tie as tie
@@ -22,7 +24,7 @@ unfolding coefficients
 coefficients-are xs {cs = cs} p q = subst (λ ws. cs ≡ tabulate (λ n. dot integers (row n) ws) 0 27) p q
 
 within-limits : {vs : List ℤ} → InRange volumeLimit vs → WithinLimits vs
-within-limits h = record { small = λ i. le-trans (h .small i) (limit-cases (λ m. volumeLimit ≤ m) (lit≤ tt) (lit≤ tt) i) }
+within-limits h = record { small = λ i. le-trans (h .small i) (split-cases (λ m. volumeLimit ≤ m) (lit≤ tt) (lit≤ tt) 8 i) }
 
 volumes-requires : tie.Need-volumes-requires
 volumes-requires c κs = search needs

@@ -1,23 +1,23 @@
--- The difference of two coordinates in range.
+-- The difference of two coordinates.
 use borrow.Author.Needs.{needs}
-use Prim.Native.Nat.{_+_, _-_, _*_}
+use Prim.Native.Nat.{_-_}
 use mir.Syntax.{w64}
 use mir.Val.{ofZ}
 use Rattle.foundation.specs.Held.{Rep, sub, sub-fits, answered}
 use Rattle.definitions.specs.Jacobian.{nodesOf}
-use Rattle.narrow_volumes.specs.Range.{narrowRange}
-use Rattle.narrow_volumes.proofs.edge.Statement.{statement}
-use Rattle.narrow_volumes.proofs.edge.Tie as tie
+use Rattle.element_vectors.specs.Widened.{widest}
+use Rattle.element_vectors.proofs.edge.Statement.{statement}
+use Rattle.element_vectors.proofs.edge.Tie as tie
 
 module _ (c : tie.After-coordinate2) where
   abbrev s : tie.Start
   s = c .before .before
 
-  end : Rep (ofZ w64 (c .before .coordinate .result)) (nodesOf (s .args .p .now) (s .args .b - 1) (s .args .e)) narrowRange
-  end = answered narrowRange (c .before .coordinate .ensures) (s .pre .0 .small (3 * (s .args .b - 1) + s .args .e)) tt
+  end : Rep (ofZ w64 (c .before .coordinate .result)) (nodesOf (s .args .p .now) (s .args .b - 1) (s .args .e)) widest
+  end = answered widest (c .before .coordinate .ensures .0) (c .before .coordinate .ensures .1) tt
 
-  start : Rep (ofZ w64 (c .coordinate2 .result)) (nodesOf (s .args .p .now) (s .args .a - 1) (s .args .e)) narrowRange
-  start = answered narrowRange (c .coordinate2 .ensures) (s .pre .0 .small (3 * (s .args .a - 1) + s .args .e)) tt
+  start : Rep (ofZ w64 (c .coordinate2 .result)) (nodesOf (s .args .p .now) (s .args .a - 1) (s .args .e)) widest
+  start = answered widest (c .coordinate2 .ensures .0) (c .coordinate2 .ensures .1) tt
 
 coordinate-requires : tie.Need-coordinate-requires
 coordinate-requires c κs = search needs

@@ -1,14 +1,17 @@
--- What a widened 32-bit number is held as.
+-- A 32-bit number as a 64-bit one.
 use mathlib.Core.Path.{_≡_, sym, _∙_, subst}
-use Prim.Native.Nat.{_^_, _<_}
+use Prim.Native.Nat.{ℕ, _^_, _<_}
 use lib.IntN.{ℤ}
 use lib.Signed.{mag}
 use mir.Syntax.{w32, w64}
 use mir.Val.{SFits, toZ, ofZ}
 use mir.Facts.{sfits-widen, toZ-ofZ}
 
--- a 32-bit number as a 64-bit one
-module _ (z : ℤ) (h : mag z < 2 ^ 31) where
+-- the largest magnitude of a 32-bit number
+abbrev pub widest : ℕ
+widest = 2 ^ 31
+
+module _ (z : ℤ) (h : mag z < widest) where
   narrow : SFits w32 z
   narrow = record { sfits = h }
 

@@ -1,11 +1,12 @@
 -- A coordinate, widened.
-use Rattle.narrow_volumes.specs.Results.{widened-fits, widened}
+use Rattle.element_vectors.specs.Widened.{widened-fits, widened}
 use Prim.Native.Nat.{_-_}
 use lib.IntN.{ℤ}
+use lib.Signed.{natAbs-le}
 use Rattle.definitions.specs.Jacobian.{nodesOf}
 use borrow.Author.Needs.{needs}
-use Rattle.narrow_volumes.proofs.coordinate.Statement.{statement}
-use Rattle.narrow_volumes.proofs.coordinate.Tie as tie
+use Rattle.element_vectors.proofs.coordinate.Statement.{statement}
+use Rattle.element_vectors.proofs.coordinate.Tie as tie
 
 abbrev here : tie.Start → ℤ
 here s = nodesOf (s .args .p .now) (s .args .a - 1) (s .args .e)
@@ -29,7 +30,7 @@ cast-result : tie.Need-cast-result
 cast-result c = widened-fits (here (c .before)) (c .result .given)
 
 returns : tie.Need-returns
-returns c = widened (here (c .before)) (c .result .given)
+returns c = (widened (here (c .before)) (c .result .given), natAbs-le (here (c .before)) (c .result .given))
 
 pub coordinate-spec : {M : Type 1} → statement M
 coordinate-spec =

@@ -1,0 +1,5 @@
+pub mod Fitting
+pub mod Range
+pub mod Sizes
+pub mod Vectors
+pub mod Widened
