@@ -1,14 +1,14 @@
 -- Where the coefficients stand in the rows; a coefficient of a half by its row; and a half put together row by row.
 use mathlib.Core.Path.{_≡_, refl, sym, _∙_, ap, subst}
-use mathlib.Core.List.{List, [], _∷_, map}
-use Prim.Native.Nat.{ℕ, zero, suc, _+_, _*_, _-_, _/_, _%_, _^_, _<_, _≤_}
+use mathlib.Core.List.{List, [], _∷_}
+use Prim.Native.Nat.{ℕ, zero, suc, _+_, _*_, _-_, _/_, _%_, _<_, _≤_}
 use native.Mathlib.Decide.{ℕ-discrete}
 use native.Mathlib.Omega.{arith}
 use lib.Dec.{T, eqb}
 use lib.ListN.{getD, set, length, length-set}
 use lib.Seq.{ext-getD, getD-set-same, getD-set-other}
 use lib.IntN.{ℤ, pos}
-use Rattle.foundation.specs.Lists.{allBelow, equal-below}
+use Rattle.foundation.specs.Lists.{getD-image, allBelow, equal-below}
 use Rattle.foundation.specs.Polynomial.{integers, var, con, add, mul, solve}
 use Rattle.foundation.specs.Words.{args}
 use Rattle.definitions.specs.Coefficients.{numbering, numbered, place, at}
@@ -70,11 +70,6 @@ row-small {d} {j} r = (
 )
 
 -- ---- a coefficient of a half
-getD-image : {A B : Type 0} (f : A → B) (l : List A) (n : ℕ) (a : A) (b : B) → n < length l → getD (map f l) n b ≡ f (getD l n a)
-getD-image f [] n a b h = absurd (omega arith)
-getD-image f (x ∷ l) zero a b h = refl
-getD-image f (x ∷ l) (suc n) a b h = getD-image f l n a b (omega arith)
-
 halve-at : (d h : ℕ) (c : List ℤ) (n : ℕ) → d < 3 → n < 27
     → getD (halve d h c) n (pos 0) ≡ cutRow integers h (λ t. getD c (inRow d (placeIn (first d) n) (placeIn (second d) n) t) (pos 0)) (placeIn d n)
 unfolding halve numbered at

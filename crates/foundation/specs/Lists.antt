@@ -107,6 +107,11 @@ module _ {A B : Type 0} (f : A → List B) where
 pub drop-next : {A : Type 0} (xs : List A) (k : ℕ) (d : A) → k < length xs → drop k xs ≡ getD xs k d ∷ drop (k + 1) xs
 drop-next xs k d h = drop-cons xs k d h ∙ ap (λ (n : ℕ). getD xs k d ∷ drop n xs) (sym (add-one k))
 
+pub getD-image : {A B : Type 0} (f : A → B) (l : List A) (n : ℕ) (a : A) (b : B) → n < length l → getD (map f l) n b ≡ f (getD l n a)
+getD-image f [] n a b h = absurd (omega arith)
+getD-image f (x ∷ l) zero a b h = refl
+getD-image f (x ∷ l) (suc n) a b h = getD-image f l n a b (omega arith)
+
 pub length-tabulate : {A : Type 0} (f : ℕ → A) (i n : ℕ) → length (tabulate f i n) ≡ n
 length-tabulate f i zero = refl
 length-tabulate f i (suc n) = ap suc (length-tabulate f (suc i) n)

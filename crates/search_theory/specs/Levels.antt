@@ -75,7 +75,7 @@ most-next m = let p : m + 1 ≡ suc m = omega arith in ap most p ∙ ap (λ (n :
 most-room : (m c c′ : ℕ) → c ≤ most m → c′ ≤ c + 8 ^ (m + 1) → c′ ≤ most (m + 1)
 most-room m c c′ h k = omega (arith, most-next m)
 
-most-less : (m : ℕ) → m ≤ deepest → most m ≤ most deepest
+pub most-less : (m : ℕ) → m ≤ deepest → most m ≤ most deepest
 most-less m h = up (λ k. most m ≤ most k) (λ k q. omega arith) m deepest h (omega arith)
 
 count-room : (m c : ℕ) → m < deepest → c ≤ most m → c + 8 ^ (m + 1) < countRoom

@@ -1,0 +1,77 @@
+-- Eight points within the larger limits (document 02, No. 8): two words hold their coefficients at every level within the limits, so the search in two words may be used;
+-- and how large each number of a record gets.
+use mathlib.Core.Path.{_≡_, refl, sym, _∙_, ap, subst}
+use mathlib.Core.List.{List}
+use Prim.Native.Nat.{ℕ, _*_, _^_, _≤_, _<_}
+use native.Mathlib.Nat.{le-trans, mul-le-mul-left, pow-le-pow-right, zero-lt-suc, lt-of-le-of-lt}
+use native.Mathlib.Omega.{arith}
+use lib.Dec.{lit<, lit≤}
+use lib.ListN.{length}
+use lib.IntN.{ℤ, natAbs}
+use Rattle.foundation.specs.Lists.{All, all-map}
+use Rattle.foundation.specs.Words.{Within}
+use Rattle.definitions.specs.Coefficients.{coefficients}
+use Rattle.definitions.specs.Subdivision.{Cell, whole, cells}
+use Rattle.definitions.specs.Verdict.{Finding, Verdict, valid, invalid, undecided, verdict, opened}
+use Rattle.expansion_theory.specs.Expansion.{length-coefficients}
+use Rattle.expansion_theory.specs.Size.{whole-size, coefficient-size}
+use Rattle.verdict_theory.specs.Opened.{most, opened-most}
+use Rattle.verdict_theory.specs.Meaning.{IsPoint, IsCoefficient, InvalidAt, UndecidedAt, Means, invalid-point, undecided-coefficient, means}
+use Rattle.search_theory.specs.Meaning.{Small, deepest}
+use Rattle.search_theory.specs.Levels.{most-less}
+use Rattle.element_vectors.specs.Range.{InRange}
+use Rattle.wide_volumes.specs.Range.{wideRange}
+use Rattle.wide_rows.specs.Word.{largest}
+
+-- the largest magnitude of a coefficient of the whole, and of one of the deepest level
+abbrev size : ℕ
+size = 384 * wideRange ^ 3
+
+abbrev pub heldMost : ℕ
+heldMost = 384 * 2 ^ 108
+
+within : (xs : List ℤ) → InRange wideRange xs → Within size (coefficients xs)
+unfolding whole
+within xs h = whole-size xs wideRange (h .small)
+
+deep : (n : ℕ) → n ≤ deepest → size * 64 ^ n ≤ heldMost
+deep n l = mul-le-mul-left size (pow-le-pow-right (zero-lt-suc 63) l)
+
+pub points-small : (xs g : List ℤ) (depth : ℕ) → InRange wideRange xs → depth ≤ deepest → g ≡ coefficients xs → Small largest g depth
+points-small xs g depth h l e = record {
+  bound = size;
+  control = record { sized = ap length e ∙ length-coefficients xs; within = subst (Within size) (sym e) (within xs h) };
+  small = le-trans (deep depth l) (lit≤ tt);
+}
+
+-- ---- how large the numbers get, for points within the limits at a level or depth within them
+module _ (xs : List ℤ) where
+  -- no coefficient that is held is above 384 · 2^108
+  pub held-most : InRange wideRange xs → (m : ℕ) → m ≤ deepest → All (λ s. All (λ v. natAbs v ≤ heldMost) (s .control)) (cells xs m)
+  held-most h m l = all-map (λ s. All (λ v. natAbs v ≤ size * 64 ^ m) (s .control)) (λ s. All (λ v. natAbs v ≤ heldMost) (s .control))
+      (λ s p. all-map (λ v. natAbs v ≤ size * 64 ^ m) (λ v. natAbs v ≤ heldMost) (λ v q. le-trans q (deep m l)) (s .control) p) (cells xs m) (coefficient-size xs wideRange (h .small) m)
+
+  -- at most 19,173,961 cells are opened
+  pub opened-few : (D : ℕ) → D ≤ deepest → opened xs D ≤ 19173961
+  opened-few D l = le-trans (opened-most xs D) (le-trans (most-less D l) (lit≤ tt))
+
+  -- a grid number that is named is at most 256
+  abbrev pub OnGrid : Finding → Type 0
+  OnGrid f = (f .a ≤ 256) × (f .b ≤ 256) × (f .c ≤ 256)
+
+  abbrev pub NamesOnGrid : Verdict → Type 0
+  NamesOnGrid (valid l) = Unit
+  NamesOnGrid (invalid l f) = OnGrid f
+  NamesOnGrid (undecided l f) = OnGrid f
+
+  grid-most : (m : ℕ) → m ≤ deepest → 2 ^ m ≤ 256
+  grid-most m l = pow-le-pow-right (zero-lt-suc 1) l
+
+  pub named-on-grid : (D : ℕ) → D ≤ deepest → NamesOnGrid (verdict xs D)
+  named-on-grid D l = go (verdict xs D) (means xs D)
+    where
+      go : (v : Verdict) → Means xs D v → NamesOnGrid v
+      go (valid m) h = tt
+      go (invalid m f) h = let p = invalid-point xs D m f h .on-grid in let q = grid-most m (le-trans (h .within) l) in (le-trans (p .0) q, le-trans (p .1) q, le-trans (p .2) q)
+      go (undecided m f) h = let p = undecided-coefficient xs D m f h in let q = grid-most D l in let c = p .of-level in
+          subst OnGrid (sym (p .is)) (omega (arith, c .a-below, q), omega (arith, c .b-below, q), omega (arith, c .c-below, q))

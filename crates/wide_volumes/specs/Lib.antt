@@ -1,0 +1,4 @@
+pub mod Begun
+pub mod Digits
+pub mod Range
+pub mod Sizes
