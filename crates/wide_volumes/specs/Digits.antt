@@ -3,7 +3,7 @@ use mathlib.Core.Path.{_≡_, refl, sym, _∙_, ap, ap₂, subst}
 use mathlib.Core.List.{List, [], _∷_, _++_, map}
 use Prim.Native.Nat.{ℕ, suc, _+_, _*_, _-_, _/_, _%_, _<_, _≤_}
 use native.Mathlib.Omega.{arith}
-use lib.ListN.{getD, List·getD-append}
+use lib.ListN.{getD, length, List·getD-append}
 use lib.Seq.{getD-append-add}
 use lib.IntN.{ℤ, pos, negsuc, negℤ, natAbs, _+ℤ_, _-ℤ_, _*ℤ_}
 use lib.Signed.{shrZ}
@@ -60,6 +60,10 @@ edgeDigit f x t = let n : ℕ → ℕ = λ i. getD t i 0 in det integers (λ e. 
 
 unfoldable pub digits : (ℤ → ℤ) → Nodes ℤ → List ℤ
 digits f x = map (cornerDigit f x) cornerTetrahedra ++ map (edgeDigit f x) edgeTetrahedra
+
+pub digits-length : (f : ℤ → ℤ) (x : Nodes ℤ) → length (digits f x) ≡ 20
+unfolding digits
+digits-length f x = refl
 
 -- ---- numbers from their digits, place by place
 abbrev pub joins : List ℤ → List ℤ → List ℤ
