@@ -6,7 +6,6 @@ use Prim.Native.Nat.{ℕ, zero, suc, _+_, _*_, _-_, _^_, _<_, _≤_, zero-le}
 use native.Mathlib.Nat.{pow-succ', pow-le-pow-right, zero-lt-suc, suc-mul, add-mul, mul-le-mul-left, mul-le-mul-right}
 use native.Mathlib.Omega.{arith}
 use lib.ListN.{length}
-use lib.IntN.{ℤ}
 use Rattle.definitions.specs.Subdivision.{Cell, child, children}
 use Rattle.definitions.specs.Verdict.{blocked}
 use Rattle.verdict_theory.specs.Search.{Found, nothing, coefficient, point, Pass, ended, openCell, openAll, visit}

@@ -1,6 +1,6 @@
 -- The bounds of two depths: at one scale the low one does not fall and the high one does not rise.
-use mathlib.Core.Path.{_≡_, refl, sym, _∙_, ap, subst}
-use mathlib.Core.List.{List, [], _∷_, map}
+use mathlib.Core.Path.{_≡_, sym, _∙_, ap, subst}
+use mathlib.Core.List.{List, map}
 use Prim.Native.Nat.{ℕ, zero, suc, _+_, _*_, _<_, _≤_, _^_}
 use native.Mathlib.Omega.{arith}
 use native.Mathlib.Nat.{pow-succ'}
@@ -18,7 +18,7 @@ use Rattle.definitions.specs.Subdivision.{Cell, children, cells}
 use Rattle.definitions.specs.Verdict.{Finding, cornersOf, coefficientsOf}
 use Rattle.definitions.specs.Bounds.{low, gridValues, high}
 use Rattle.verdict_theory.specs.Positive.{findings-of, of-findings, corners-of}
-use Rattle.verdict_theory.specs.Points.{AtPoints, AtCorners, points-of, corners-at, points-down, numbers, values-at, at-values}
+use Rattle.verdict_theory.specs.Points.{AtPoints, points-of, corners-at, points-down, numbers, values-at, at-values}
 
 -- ---- nothing is empty
 children-some : (s : Cell) → 0 < length (children s)

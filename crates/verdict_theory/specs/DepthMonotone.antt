@@ -1,22 +1,22 @@
 -- Promise 3 of docs/TRUST.md, whole: a closer look never takes back what was sold.
 use mathlib.Core.Path.{_≡_, refl, sym, _∙_, ap, subst}
-use mathlib.Core.List.{List, [], _∷_}
+use mathlib.Core.List.{List}
 use mathlib.Core.Logic.{_⊎_, inl, inr}
-use Prim.Native.Nat.{ℕ, zero, suc, _+_, _-_, _≤_, _^_}
+use Prim.Native.Nat.{ℕ, _+_, _-_, _≤_, _^_}
 use native.Mathlib.Omega.{arith}
 use native.Mathlib.Decide.{decLe}
 use lib.IntN.{ℤ, pos, natAbs, _*ℤ_}
 use lib.Signed.{_≤ℤ_, _<ℤ_}
 use Rattle.foundation.specs.Order.{Positive, positive-lt, positive-unscale}
 use Rattle.definitions.specs.Jacobian.{jacobian, scaledJacobian}
-use Rattle.definitions.specs.Verdict.{Finding, Verdict, valid, invalid, undecided, verdict, opened}
+use Rattle.definitions.specs.Verdict.{Verdict, valid, invalid, undecided, verdict, opened}
 use Rattle.definitions.specs.Bounds.{low, high}
 use Rattle.definitions.specs.Record.{kind, verdictWords, recordOf, kindWord}
 use Rattle.verdict_theory.specs.Positive.{PositiveLevel, level-next, positive-points}
 use Rattle.verdict_theory.specs.Points.{AtPoints, positive-down}
 use Rattle.verdict_theory.specs.Bounds.{low-rises, high-falls}
 use Rattle.verdict_theory.specs.Meaning.{clear-grid}
-use Rattle.verdict_theory.specs.Stable.{Way, isInvalid, isValid, isUndecided, way, invalid-same, valid-same, invalid-verdict, valid-verdict, undecided-verdict}
+use Rattle.verdict_theory.specs.Stable.{Way, isInvalid, isValid, isUndecided, way, invalid-same, valid-same, invalid-verdict, undecided-verdict}
 
 module _ (xs : List ℤ) where
   first-kind : (D : ℕ) → kindWord (recordOf xs D) ≡ pos (kind (verdict xs D))

@@ -1,14 +1,12 @@
 -- The elements of a mesh: promise 3 for what the report says of each; the report's words and the counts.
-use mathlib.Core.Path.{_≡_, refl, sym, _∙_, ap, ap₂, subst}
-use mathlib.Core.Bool.{Bool, true, false}
-use mathlib.Core.List.{List, [], _∷_, _++_}
-use mathlib.Core.Logic.{_⊎_, inl, inr}
+use mathlib.Core.Path.{_≡_, refl, sym, _∙_, ap, subst}
+use mathlib.Core.List.{List, [], _∷_}
 use mathlib.Core.Option.{Option, none, some}
-use Prim.Native.Nat.{ℕ, zero, suc, _+_, _*_, _/_, _<_, _≤_}
+use Prim.Native.Nat.{ℕ, _*_, _/_, _≤_}
 use native.Mathlib.Omega.{arith}
-use lib.ListN.{getD, length, take, drop, length-append}
+use lib.ListN.{length, take, drop, length-append}
 use lib.IntN.{ℤ, pos}
-use Rattle.foundation.specs.Lists.{All, all-every, all-tabulate, concatMap, tabulate, length-tabulate}
+use Rattle.foundation.specs.Lists.{All, all-tabulate, concatMap, length-tabulate}
 use Rattle.definitions.specs.Limits.{Limits, recordWords}
 use Rattle.definitions.specs.Verdict.{Verdict, valid, invalid, undecided, verdict, opened}
 use Rattle.definitions.specs.Record.{Fault, missing, twice, outside, faultWords, verdictWords, recordOf, kindWord}

@@ -1,20 +1,18 @@
 -- The bounds by recursion over the eight children, the least so far handed on.
-use mathlib.Core.Path.{_≡_, refl, sym, _∙_, ap, ap₂, subst}
-use mathlib.Core.Bool.{Bool, true, false, cond}
+use mathlib.Core.Path.{_≡_, refl, sym, _∙_, ap}
 use mathlib.Core.List.{List, [], _∷_, _++_, map}
 use Prim.Native.Nat.{ℕ, zero, suc, _+_, _<_, _≤_}
 use native.Mathlib.Omega.{arith}
-use lib.Dec.{T}
 use lib.ListN.{length}
-use lib.IntN.{ℤ, pos}
+use lib.IntN.{ℤ}
 use lib.Signed.{_≤ℤ_, ≤ℤ-refl}
-use Rattle.foundation.specs.Lists.{All, concatMap, concatMap-append}
+use Rattle.foundation.specs.Lists.{All, concatMap}
 use Rattle.foundation.specs.Order.{le-antisym}
-use Rattle.foundation.specs.Least.{lesser, leastFrom, leastOf, lesser-left, lesser-right, lesser-greatest}
+use Rattle.foundation.specs.Least.{lesser, leastFrom, leastOf, lesser-right, lesser-greatest}
 use Rattle.definitions.specs.Subdivision.{Cell, children, whole, descend, cells}
 use Rattle.definitions.specs.Verdict.{Finding, cornersOf, coefficientsOf}
 use Rattle.definitions.specs.Bounds.{low, high}
-use Rattle.expansion_theory.specs.Cells.{CellOf, all-cells}
+use Rattle.expansion_theory.specs.Cells.{all-cells}
 use Rattle.verdict_theory.specs.Bounds.{shown-some, high-corners, coefficients-some, corners-some}
 use Rattle.verdict_theory.specs.Prune.{descend-append, descend-none, descend-cell}
 use Rattle.verdict_theory.specs.Search.{cornerValues, corners-same}

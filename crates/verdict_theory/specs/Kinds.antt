@@ -1,5 +1,5 @@
 -- The kinds of records and their counts: word 0 of a record is 0, 1, 2, 5, 6 or 7, and of records that each have a kind all are counted, each once.
-use mathlib.Core.Path.{_≡_, refl, sym, _∙_, ap, ap₂}
+use mathlib.Core.Path.{_≡_, refl, sym, _∙_, ap}
 use mathlib.Core.Bool.{Bool, true, false, _||_, true≢false}
 use mathlib.Core.List.{List, [], _∷_, _++_}
 use Prim.Native.Nat.{ℕ, suc, _+_}

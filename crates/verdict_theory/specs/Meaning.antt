@@ -1,9 +1,9 @@
 -- The verdict in document 01's words: which of the three holds, and what is named is as 01 says.
 use mathlib.Core.Path.{_≡_, refl, sym, _∙_, ap, subst}
-use mathlib.Core.Bool.{Bool, true, false, not, true≢false}
-use mathlib.Core.List.{List, [], _∷_, _++_}
+use mathlib.Core.Bool.{true, false, not, true≢false}
+use mathlib.Core.List.{List}
 use mathlib.Core.Option.{Option, none, some}
-use Prim.Native.Nat.{ℕ, zero, suc, _<_, _≤_, _^_}
+use Prim.Native.Nat.{ℕ, _<_, _≤_, _^_}
 use native.Mathlib.Omega.{arith}
 use lib.ListN.{length}
 use lib.IntN.{ℤ, pos}
@@ -13,12 +13,12 @@ use Rattle.foundation.specs.Lists.{All, all-map, all-concat, all-tabulate, conc
 use Rattle.expansion_theory.specs.Cells.{CellOf, all-cells}
 use Rattle.definitions.specs.Jacobian.{scaledJacobian}
 use Rattle.definitions.specs.Subdivision.{Cell, cells}
-use Rattle.definitions.specs.Verdict.{Finding, firstLow, found, cornersOf, coefficientsOf, lowPoint, lowCoefficient, leastLevel, lastLevel, validLevel, Verdict, valid, invalid, undecided, verdict}
+use Rattle.definitions.specs.Verdict.{Finding, found, cornersOf, coefficientsOf, lowPoint, lowCoefficient, leastLevel, lastLevel, validLevel, Verdict, valid, invalid, undecided, verdict}
 use Rattle.verdict_theory.specs.Findings.{some-not-none, low-none, none-low, First, low-first, first-low, first-has}
 use Rattle.verdict_theory.specs.Levels.{level-le, level-before, level-holds, level-unique}
 use Rattle.verdict_theory.specs.Positive.{PositiveLevel, clear-positive, positive-clear, positive-points, coefficientOf, corners-of}
-use Rattle.verdict_theory.specs.Points.{AtPoints, points-of, corners-at, positive-down, side-small}
-use Rattle.verdict_theory.specs.Stable.{hasPoint, isClear, not-found, Way, isInvalid, isValid, isUndecided, way, Valid, Invalid, Undecided, no-points, invalid-verdict, valid-verdict, undecided-verdict}
+use Rattle.verdict_theory.specs.Points.{points-of, corners-at, positive-down, side-small}
+use Rattle.verdict_theory.specs.Stable.{hasPoint, isClear, not-found, Way, isInvalid, isValid, isUndecided, way, Valid, Invalid, Undecided, invalid-verdict, valid-verdict, undecided-verdict}
 
 module _ (xs : List ℤ) where
   -- J is above 0 at every grid point of level m

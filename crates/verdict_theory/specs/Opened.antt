@@ -1,14 +1,14 @@
 -- How many cells are opened: at most 1 + 8 + … + 8^D.
-use mathlib.Core.Path.{_≡_, refl, sym, _∙_, ap, subst}
+use mathlib.Core.Path.{sym, subst}
 use mathlib.Core.Bool.{Bool, true, false}
-use mathlib.Core.List.{List, [], _∷_, _++_}
-use Prim.Native.Nat.{ℕ, zero, suc, _+_, _*_, _<_, _≤_, _^_}
+use mathlib.Core.List.{List, [], _∷_}
+use Prim.Native.Nat.{ℕ, zero, suc, _+_, _*_, _≤_, _^_}
 use native.Mathlib.Omega.{arith}
 use native.Mathlib.Nat.{le-trans, add-le-add, pow-succ'}
 use lib.ListN.{length, length-append}
 use lib.IntN.{ℤ}
 use Rattle.foundation.specs.Lists.{concatMap, up}
-use Rattle.definitions.specs.Subdivision.{Cell, children, whole, descend}
+use Rattle.definitions.specs.Subdivision.{Cell, children}
 use Rattle.definitions.specs.Verdict.{found, firstLow, cornersOf, blocked, openedBelow, openedAt, lastLevel, opened}
 use Rattle.verdict_theory.specs.Count.{upTo, countAt, countTo, opened-count}
 use Rattle.verdict_theory.specs.Levels.{level-le}

@@ -1,6 +1,6 @@
 -- Pass after pass, level 0, 1, .., D: what each pass finds settles the record or calls for the next.
-use mathlib.Core.Path.{_≡_, refl, sym, _∙_, ap, ap₂, subst}
-use mathlib.Core.Bool.{Bool, true, false, not}
+use mathlib.Core.Path.{_≡_, refl, sym, _∙_, ap}
+use mathlib.Core.Bool.{false, not}
 use mathlib.Core.List.{List}
 use mathlib.Core.Option.{Option, none, some}
 use Prim.Native.Nat.{ℕ, zero, suc, _+_, _<_, _≤_}
@@ -8,12 +8,11 @@ use native.Mathlib.Omega.{arith}
 use native.Mathlib.Decide.{ℕ-discrete}
 use lib.IntN.{ℤ}
 use Rattle.definitions.specs.Subdivision.{whole}
-use Rattle.definitions.specs.Verdict.{Finding, found, lowPoint, lowCoefficient, lastLevel, validLevel, Verdict, valid, invalid, undecided, verdict, opened}
+use Rattle.definitions.specs.Verdict.{Finding, found, lowPoint, lowCoefficient, lastLevel, validLevel, valid, invalid, undecided, verdict, opened}
 use Rattle.verdict_theory.specs.Count.{countAt, countTo, opened-at}
-use Rattle.verdict_theory.specs.Findings.{some-not-none}
 use Rattle.verdict_theory.specs.Levels.{level-unique}
 use Rattle.verdict_theory.specs.Positive.{clear-positive}
-use Rattle.verdict_theory.specs.Stable.{hasPoint, isClear, Invalid, Valid, Undecided, invalid-verdict, valid-verdict, undecided-verdict, verdict-same, opened-same, last-none}
+use Rattle.verdict_theory.specs.Stable.{hasPoint, isClear, Valid, invalid-verdict, valid-verdict, undecided-verdict, verdict-same, opened-same, last-none}
 use Rattle.verdict_theory.specs.Search.{Found, nothing, coefficient, point, Pass, finds, pass, visit, visit-whole}
 
 -- what a pass's find says of its two parts

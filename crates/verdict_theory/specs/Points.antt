@@ -1,22 +1,22 @@
 -- The corners of the cells of a level are its grid points.
-use mathlib.Core.Path.{_≡_, refl, sym, _∙_, ap, ap₂, subst}
-use mathlib.Core.Bool.{Bool, true, false, _&&_}
+use mathlib.Core.Path.{_≡_, _∙_, subst}
+use mathlib.Core.Bool.{Bool, _&&_}
 use mathlib.Core.List.{List, [], _∷_}
 use Prim.Native.Nat.{ℕ, zero, suc, _+_, _*_, _-_, _/_, _%_, _<_, _≤_, _^_}
 use native.Mathlib.Omega.{arith}
 use native.Mathlib.Decide.{decLt}
-use lib.Dec.{T, ltb, eqb, eqb→eq, ltb→lt}
+use lib.Dec.{ltb, eqb, eqb→eq, ltb→lt}
 use lib.Ieee.Fits.{and-l, and-r}
-use lib.ListN.{getD, length}
+use lib.ListN.{getD}
 use lib.IntN.{ℤ, pos, _*ℤ_}
 use Rattle.foundation.specs.Order.{Positive, positive-unscale}
-use Rattle.foundation.specs.Lists.{All, all-map, all-concat, concat-all, all-tabulate, tabulate-all, concatMap, tabulate, allBelow, below, down, all-getD-default}
+use Rattle.foundation.specs.Lists.{All, all-map, all-concat, concat-all, all-tabulate, tabulate-all, concatMap, tabulate, below, down, all-getD-default}
 use Rattle.definitions.specs.Jacobian.{sides, side, scaledJacobian}
 use Rattle.definitions.specs.Subdivision.{Cell, child, children, whole, cells}
-use Rattle.definitions.specs.Verdict.{Finding, cornersOf}
+use Rattle.definitions.specs.Verdict.{cornersOf}
 use Rattle.definitions.specs.Bounds.{gridValues}
 use Rattle.expansion_theory.specs.Cells.{CellOf, all-cells, pow-twice, scaled-twice}
-use Rattle.verdict_theory.specs.Positive.{cornerOf, corners-of, of-corners}
+use Rattle.verdict_theory.specs.Positive.{corners-of, of-corners}
 
 -- ---- the corner on given sides
 pub record Corner (x y z : ℕ) : Type 0 where

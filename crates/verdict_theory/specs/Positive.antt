@@ -1,20 +1,20 @@
 -- Cells whose 27 coefficients are above 0, and levels of such cells: nothing low is found in them, nor below them.
-use mathlib.Core.Path.{_≡_, refl, sym, _∙_, ap, subst}
-use mathlib.Core.Bool.{Bool, true, false}
-use mathlib.Core.List.{List, [], _∷_}
-use mathlib.Core.Option.{Option, none, some}
+use mathlib.Core.Path.{_≡_, subst}
+use mathlib.Core.Bool.{true}
+use mathlib.Core.List.{List}
+use mathlib.Core.Option.{none}
 use Prim.Native.Nat.{ℕ, zero, suc, _+_, _<_, _≤_}
 use native.Mathlib.Omega.{arith}
 use lib.ListN.{getD, length}
-use lib.IntN.{ℤ, pos, _*ℤ_}
+use lib.IntN.{ℤ, pos}
 use lib.Signed.{_≤ℤ_, leZ-yes}
 use Rattle.foundation.specs.Order.{Positive, le-trans}
 use Rattle.foundation.specs.Lists.{All, all-map, all-both, getD-all, all-concat, concat-all, all-tabulate, tabulate-all, concatMap, up}
-use Rattle.expansion_theory.specs.Cells.{CellOf, all-cells, eight, child-sized, corner-is}
+use Rattle.expansion_theory.specs.Cells.{CellOf, all-cells, eight, corner-is}
 use Rattle.expansion_theory.specs.Hull.{Above, child-above, above-getD}
 use Rattle.definitions.specs.Jacobian.{side, scaledJacobian}
-use Rattle.definitions.specs.Subdivision.{Cell, child, children, whole, descend, cells}
-use Rattle.definitions.specs.Verdict.{Finding, cornersOf, coefficientsOf, firstLow, lowPoint, lowCoefficient}
+use Rattle.definitions.specs.Subdivision.{Cell, child, children, descend, cells}
+use Rattle.definitions.specs.Verdict.{Finding, cornersOf, coefficientsOf, lowPoint, lowCoefficient}
 use Rattle.verdict_theory.specs.Findings.{AboveZero, low-none, none-low}
 
 abbrev pub PositiveCell : Cell → Type 0

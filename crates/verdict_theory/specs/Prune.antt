@@ -1,13 +1,13 @@
 -- Only cells with a coefficient ≤ 0 need to be opened: below any other, nothing low is found.
 use mathlib.Core.Path.{_≡_, refl, sym, _∙_, ap, ap₂}
-use mathlib.Core.Bool.{Bool, true, false}
+use mathlib.Core.Bool.{true, false}
 use mathlib.Core.List.{List, [], _∷_, _++_}
 use mathlib.Core.Option.{Option, none, some}
 use Prim.Native.Nat.{ℕ, zero, suc}
 use lib.ListN.{length}
 use Rattle.foundation.specs.Lists.{All, all-map, all-concat, all-every, concatMap, concatMap-append, append-nil}
-use Rattle.definitions.specs.Subdivision.{Cell, child, children, descend}
-use Rattle.definitions.specs.Verdict.{Finding, firstLow, found, coefficientsOf, blocked, openedBelow}
+use Rattle.definitions.specs.Subdivision.{Cell, children, descend}
+use Rattle.definitions.specs.Verdict.{Finding, firstLow, found, coefficientsOf, openedBelow}
 use Rattle.expansion_theory.specs.Cells.{eight, child-sized}
 use Rattle.verdict_theory.specs.Findings.{orElse, AboveZero, low-none, none-low, firstOf, firstOf-append}
 use Rattle.verdict_theory.specs.Positive.{PositiveCell, children-positive, findings-positive, positive-below}

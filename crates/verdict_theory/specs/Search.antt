@@ -1,25 +1,22 @@
 -- The recursive search: one pass for each level 0, 1, .., D; a pass goes down only into cells with a coefficient ≤ 0. It yields the record.
-use mathlib.Core.Path.{_≡_, refl, sym, _∙_, ap, ap₂, subst}
-use mathlib.Core.Bool.{Bool, true, false, not}
+use mathlib.Core.Path.{_≡_, refl, sym, _∙_, ap, ap₂}
+use mathlib.Core.Bool.{Bool, true, false}
 use mathlib.Core.List.{List, [], _∷_, _++_}
 use mathlib.Core.Option.{Option, none, some}
-use Prim.Native.Nat.{ℕ, zero, suc, _+_, _<_, _≤_}
+use Prim.Native.Nat.{ℕ, zero, suc, _+_, _≤_}
 use native.Mathlib.Omega.{arith}
-use native.Mathlib.Decide.{ℕ-discrete}
 use lib.ListN.{getD}
 use lib.IntN.{ℤ, pos}
 use Rattle.foundation.specs.Lists.{All, all-map, concatMap, tabulate, tabulate-cong, all-tabulate}
 use Rattle.definitions.specs.Jacobian.{side, scaledJacobian}
-use Rattle.definitions.specs.Subdivision.{Cell, child, children, whole, descend, cells}
-use Rattle.definitions.specs.Verdict.{Finding, cornersOf, coefficientsOf, firstLow, found, lowPoint, lowCoefficient, lastLevel, validLevel, Verdict, valid, invalid, undecided, verdict, blocked, openedBelow, openedAt, opened}
-use Rattle.definitions.specs.Record.{verdictWords, recordOf}
+use Rattle.definitions.specs.Subdivision.{Cell, children, whole, descend, cells}
+use Rattle.definitions.specs.Verdict.{Finding, cornersOf, coefficientsOf, firstLow, found, lowPoint, lowCoefficient, blocked, openedBelow, openedAt, opened}
 use Rattle.expansion_theory.specs.Cells.{CellOf, all-cells, corner-is}
 use Rattle.expansion_theory.specs.Hull.{above-getD}
-use Rattle.verdict_theory.specs.Count.{upTo, countAt, countTo}
-use Rattle.verdict_theory.specs.Findings.{orElse, orElse-none, orElse-assoc, AboveZero, low-append, none-low, low-none, firstOf, some-not-none}
-use Rattle.verdict_theory.specs.Levels.{level-unique}
-use Rattle.verdict_theory.specs.Positive.{PositiveCell, positive-findings, findings-positive, clear-positive, positive-clear}
-use Rattle.verdict_theory.specs.Stable.{hasPoint, isClear, not-found, opened-all, Invalid, Valid, Undecided, invalid-verdict, valid-verdict, undecided-verdict, invalid-same, valid-same, last-none}
+use Rattle.verdict_theory.specs.Count.{upTo, countAt}
+use Rattle.verdict_theory.specs.Findings.{orElse, orElse-none, orElse-assoc, AboveZero, low-append, firstOf}
+use Rattle.verdict_theory.specs.Positive.{PositiveCell, positive-findings}
+use Rattle.verdict_theory.specs.Stable.{opened-all}
 use Rattle.verdict_theory.specs.Prune.{descend-cell, descend-append, descend-none, Sized, prune}
 
 -- ---- what a pass has found: nothing low, a coefficient, or a corner

@@ -1,17 +1,16 @@
 -- A valid or an invalid record stays the same in every word at every greater depth.
-use mathlib.Core.Path.{_≡_, refl, sym, _∙_, ap, ap₂, subst}
+use mathlib.Core.Path.{_≡_, refl, sym, _∙_, ap, ap₂}
 use mathlib.Core.Bool.{Bool, true, false, not, true≢false}
 use mathlib.Core.List.{List, [], _∷_, _++_}
-use mathlib.Core.Logic.{_⊎_, inl, inr}
 use mathlib.Core.Option.{Option, none, some}
-use Prim.Native.Nat.{ℕ, zero, suc, _+_, _≤_, _<_}
+use Prim.Native.Nat.{ℕ, zero, suc, _+_, _≤_}
 use native.Mathlib.Omega.{arith}
 use native.Mathlib.Decide.{decLe}
-use lib.IntN.{ℤ, pos, natAbs}
+use lib.IntN.{ℤ}
 use Rattle.foundation.specs.Lists.{All, all-map, all-concat, concat-all, concatMap, up}
 use Rattle.definitions.specs.Subdivision.{Cell, children, whole, descend, cells}
-use Rattle.definitions.specs.Verdict.{Finding, firstLow, found, coefficientsOf, lowPoint, lowCoefficient, leastLevel, lastLevel, validLevel, Verdict, valid, invalid, undecided, decide, verdict, blocked, openedBelow, openedAt, opened, cornersOf}
-use Rattle.definitions.specs.Record.{kind, verdictWords, recordOf}
+use Rattle.definitions.specs.Verdict.{Finding, firstLow, found, coefficientsOf, lowPoint, lowCoefficient, leastLevel, lastLevel, validLevel, valid, invalid, undecided, decide, verdict, blocked, openedBelow, openedAt, opened, cornersOf}
+use Rattle.definitions.specs.Record.{verdictWords, recordOf}
 use Rattle.verdict_theory.specs.Count.{upTo, countTo, opened-count, opened-at}
 use Rattle.verdict_theory.specs.Findings.{none-low}
 use Rattle.verdict_theory.specs.Levels.{level-le, level-none, level-holds, level-up}

@@ -1,22 +1,22 @@
 -- Eight points within the larger limits (document 02, No. 8): two words hold their coefficients at every level within the limits, so the search in two words may be used;
 -- and how large each number of a record gets.
-use mathlib.Core.Path.{_≡_, refl, sym, _∙_, ap, subst}
+use mathlib.Core.Path.{_≡_, sym, _∙_, ap, subst}
 use mathlib.Core.List.{List}
-use Prim.Native.Nat.{ℕ, _*_, _^_, _≤_, _<_}
-use native.Mathlib.Nat.{le-trans, mul-le-mul-left, pow-le-pow-right, zero-lt-suc, lt-of-le-of-lt}
+use Prim.Native.Nat.{ℕ, _*_, _^_, _≤_}
+use native.Mathlib.Nat.{le-trans, mul-le-mul-left, pow-le-pow-right, zero-lt-suc}
 use native.Mathlib.Omega.{arith}
-use lib.Dec.{lit<, lit≤}
+use lib.Dec.{lit≤}
 use lib.ListN.{length}
 use lib.IntN.{ℤ, natAbs}
 use Rattle.foundation.specs.Lists.{All, all-map}
 use Rattle.foundation.specs.Words.{Within}
 use Rattle.definitions.specs.Coefficients.{coefficients}
-use Rattle.definitions.specs.Subdivision.{Cell, whole, cells}
+use Rattle.definitions.specs.Subdivision.{whole, cells}
 use Rattle.definitions.specs.Verdict.{Finding, Verdict, valid, invalid, undecided, verdict, opened}
 use Rattle.expansion_theory.specs.Expansion.{length-coefficients}
 use Rattle.expansion_theory.specs.Size.{whole-size, coefficient-size}
 use Rattle.verdict_theory.specs.Opened.{most, opened-most}
-use Rattle.verdict_theory.specs.Meaning.{IsPoint, IsCoefficient, InvalidAt, UndecidedAt, Means, invalid-point, undecided-coefficient, means}
+use Rattle.verdict_theory.specs.Meaning.{Means, invalid-point, undecided-coefficient, means}
 use Rattle.search_theory.specs.Meaning.{Small, deepest}
 use Rattle.search_theory.specs.Levels.{most-less}
 use Rattle.element_vectors.specs.Range.{InRange}

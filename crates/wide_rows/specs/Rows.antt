@@ -1,12 +1,12 @@
 -- A half put together row by row, of 27 numbers in 54 words.
-use mathlib.Core.Path.{_≡_, refl, sym, _∙_, ap, ap₂}
+use mathlib.Core.Path.{_≡_, _∙_, ap}
 use mathlib.Core.List.{List, [], _∷_}
 use Prim.Native.Nat.{ℕ, _+_, _<_}
 use lib.ListN.{length, set}
-use lib.IntN.{ℤ, pos, _+ℤ_}
+use lib.IntN.{ℤ}
 use Rattle.foundation.specs.Polynomial.{integers}
 use Rattle.foundation.specs.Words.{args, Within, within}
-use Rattle.definitions.specs.Subdivision.{cutRow, halve}
+use Rattle.definitions.specs.Subdivision.{cutRow}
 use Rattle.definitions.specs.TwoWords.{value}
 use Rattle.expansion_theory.specs.Control.{Cuttable}
 use Rattle.expansion_theory.specs.Rows.{Holds, Row, lineAt, putRow}

@@ -7,8 +7,6 @@ use Rattle.foundation.specs.Words.{Op, arg, lit, plus, times, held-is, result-f
 use Rattle.narrow_rows.specs.Word.{cutLargest}
 use Rattle.narrow_rows.proofs.middle.Statement.{statement}
 use Rattle.narrow_rows.proofs.middle.Tie as tie
-use Rattle.narrow_rows.proofs.middle.Reads as reads
-use Rattle.narrow_rows.proofs.middle.Lts as lts
 
 module _ (s : tie.Start) where
   abbrev row : List ℤ

@@ -5,8 +5,6 @@ use Rattle.foundation.specs.Words.{Op, arg, lit, times, held-is, result-fits, a
 use Rattle.narrow_rows.specs.Word.{cutLargest}
 use Rattle.narrow_rows.proofs.start.Statement.{statement}
 use Rattle.narrow_rows.proofs.start.Tie as tie
-use Rattle.narrow_rows.proofs.start.Reads as reads
-use Rattle.narrow_rows.proofs.start.Lts as lts
 
 module _ (s : tie.Start) where
   abbrev row : List ℤ

@@ -1,22 +1,11 @@
 -- `halve` meets its contract: each branch hands its arguments to the function of its direction and side. Assumes nothing.
-use mathlib.Core.Path.{_≡_, sym, ap, _∙_}
-use mathlib.Core.List.{List}
-use Prim.Native.Nat.{ℕ, _<_}
+use Prim.Native.Nat.{ℕ}
 use native.Mathlib.Omega.{arith}
-use lib.IntN.{ℤ}
 use Rattle.expansion_theory.specs.Rows.{Holds}
 use Rattle.expansion_theory.specs.RowLaws.{cut-within, none-held, lower-held, upper-held}
 use Rattle.narrow_rows.specs.Word.{largest, cutLargest}
 use Rattle.narrow_subdivision.proofs.halve.Statement.{statement}
 use Rattle.narrow_subdivision.proofs.halve.Tie as tie
-use Rattle.narrow_subdivision.proofs.halve.Reads as reads
-use Rattle.narrow_subdivision.proofs.halve.Lts as lts
-use Rattle.narrow_halves.proofs.lower_eta.Reads as lower-eta-reads
-use Rattle.narrow_halves.proofs.lower_xi.Reads as lower-xi-reads
-use Rattle.narrow_halves.proofs.lower_zeta.Reads as lower-zeta-reads
-use Rattle.narrow_halves.proofs.upper_eta.Reads as upper-eta-reads
-use Rattle.narrow_halves.proofs.upper_xi.Reads as upper-xi-reads
-use Rattle.narrow_halves.proofs.upper_zeta.Reads as upper-zeta-reads
 
 module _ (s : tie.Start) (d h : ℕ) where
   ready : Holds cutLargest d h 0 (s .args .c .now) (s .args .out .now)

@@ -1,6 +1,6 @@
 -- `search_opening::open_low` meets its contract: the lowest number is a corner's or another's, and of the others the first one stays. Assumes nothing.
 use mathlib.Core.Path.{_≡_, sym, _∙_, ap}
-use Prim.Native.Nat.{ℕ, suc, _+_, _-_}
+use Prim.Native.Nat.{suc, _+_, _-_}
 use native.Mathlib.Omega.{arith}
 use Rattle.verdict_theory.specs.Search.{Found}
 use Rattle.search_theory.specs.Meaning.{cellOf}
@@ -11,11 +11,6 @@ use Rattle.search_opening.proofs.Words.{nothing-word, stays-word}
 use borrow.Author.Needs.{needs}
 use Rattle.search_opening.proofs.open_low.Statement.{statement}
 use Rattle.search_opening.proofs.open_low.Tie as tie
-use Rattle.search_opening.proofs.open_low.Reads as reads
-use Rattle.search_opening.proofs.open_low.Lts as lts
-use Rattle.cell_corners.proofs.side.Reads as side-reads
-use Rattle.search_pass.proofs.add_opened.Reads as add-opened-reads
-use Rattle.search_pass.proofs.note.Reads as note-reads
 
 add-opened-requires : tie.Need-add-opened-requires
 add-opened-requires c κs = held-less passWords 1 _ _ (omega arith) (c .before .pre .3)

@@ -2,7 +2,6 @@
 use mathlib.Core.Path.{sym, _∙_, ap}
 use Prim.Native.Nat.{ℕ}
 use native.Mathlib.Omega.{arith}
-use borrow.Author.Needs.{needs}
 use Rattle.verdict_theory.specs.Clear.{more, openedClear}
 use Rattle.search_pass.specs.Meaning.{passWords}
 use Rattle.search_theory.specs.Visit.{held-less, later-clear}

@@ -1,24 +1,19 @@
 -- `search_pass::note` meets its contract: each word is read back whole. Assumes nothing.
-use mathlib.Core.Path.{_≡_, sym, ap, _∙_}
+use mathlib.Core.Path.{sym, ap, _∙_}
 use Prim.Native.Nat.{_<_}
 use native.Mathlib.Omega.{arith}
 use lib.ListN.{set}
-use lib.IntN.{ℤ}
 use mir.Syntax.{w64}
 use mir.Val.{toZ}
 use mir.ValLaws.{toZ-ofZ, toZ-pos}
 use denote.Ref.{now}
 use Rattle.foundation.specs.Words.{signedLimit}
-use Rattle.definitions.specs.TwoWords.{lowWord, highWord}
 use Rattle.wrapping_theory.specs.Words.{AreWords, low-word-is, high-word-is}
 use Rattle.wide_number.specs.Meaning.{valueOf}
 use Rattle.search_pass.proofs.Passes.{noted}
 use borrow.Author.Needs.{needs}
 use Rattle.search_pass.proofs.note.Statement.{statement}
 use Rattle.search_pass.proofs.note.Tie as tie
-use Rattle.search_pass.proofs.note.Reads as reads
-use Rattle.search_pass.proofs.note.Lts as lts
-use Rattle.wide_number.proofs.signed.Reads as signed-reads
 
 cast-pass : tie.Need-cast-pass
 cast-pass c = search needs

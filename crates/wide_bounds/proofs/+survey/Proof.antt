@@ -1,6 +1,6 @@
 -- `wide_bounds::survey` meets its contract: the branches are those of the recursion; in the loop, the first k children have been seen. Assumes nothing.
 use mathlib.Core.Path.{_≡_, refl, sym, _∙_, ap, subst}
-use Prim.Native.Nat.{ℕ, _+_, _-_, _^_, _≤_, _<_, zero-le}
+use Prim.Native.Nat.{ℕ, _+_, _-_, _≤_, _<_, zero-le}
 use native.Mathlib.Omega.{arith}
 use lib.ListN.{length}
 use denote.Ref.{now}
@@ -8,7 +8,6 @@ use borrow.Author.Needs.{needs}
 use borrow.Author.Tests.{eqb-false}
 use Rattle.definitions.specs.Jacobian.{side}
 use Rattle.definitions.specs.Subdivision.{halve, Cell, child}
-use Rattle.expansion_theory.specs.Cut.{length-halve}
 use Rattle.verdict_theory.specs.Clear.{quarterOf, childControl}
 use Rattle.verdict_theory.specs.Extremes.{extremes}
 use Rattle.expansion_theory.specs.Control.{Cuttable}

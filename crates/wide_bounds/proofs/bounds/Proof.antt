@@ -10,12 +10,8 @@ use Rattle.search_theory.specs.Bounds.{bounds-are}
 use Rattle.wrapping_theory.specs.Words.{value-above}
 use Rattle.wide_array.specs.Values.{values}
 use Rattle.wide_rows.specs.Word.{largest}
-use borrow.Author.Needs.{needs}
 use Rattle.wide_bounds.proofs.bounds.Statement.{statement}
 use Rattle.wide_bounds.proofs.bounds.Tie as tie
-use Rattle.wide_bounds.proofs.bounds.Reads as reads
-use Rattle.wide_bounds.proofs.bounds.Lts as lts
-use Rattle.wide_bounds.proofs.survey.Reads as survey-reads
 
 greatest : value 18446744073709551615 9223372036854775807 ≡ pos largest
 greatest = value-above 18446744073709551615 9223372036854775807 (omega arith)

@@ -2,7 +2,7 @@
 use mathlib.Core.Path.{_≡_, refl, sym, ap, ap₂, subst, _∙_}
 use Prim.Native.Nat.{ℕ, _-_, _≤_, _<_, zero-le}
 use native.Mathlib.Omega.{arith}
-use lib.ListN.{length, take}
+use lib.ListN.{take}
 use Rattle.foundation.specs.Least.{lesser, leastFrom}
 use Rattle.search_theory.specs.Bounds.{least-next}
 use Rattle.wide_number.specs.Meaning.{valueOf}
@@ -10,10 +10,6 @@ use Rattle.wide_array.specs.Values.{values, values-length, value-read}
 use borrow.Author.Needs.{needs}
 use Rattle.wide_bounds.proofs.least.Statement.{statement}
 use Rattle.wide_bounds.proofs.least.Tie as tie
-use Rattle.wide_bounds.proofs.least.Reads as reads
-use Rattle.wide_bounds.proofs.least.Lts as lts
-use Rattle.wide_array.proofs.at.Reads as at-reads
-use Rattle.wide_bounds.proofs.lesser.Reads as lesser-reads
 
 abbrev Inv-loop : tie.InvT-loop
 Inv-loop g n r₀ k₀ r k = (k ≤ n) × (valueOf r ≡ leastFrom (valueOf r₀) (take k (values g)))

@@ -5,9 +5,6 @@ use Rattle.wide_number.specs.Meaning.{valueOf}
 use borrow.Author.Needs.{needs}
 use Rattle.wide_bounds.proofs.lesser.Statement.{statement}
 use Rattle.wide_bounds.proofs.lesser.Tie as tie
-use Rattle.wide_bounds.proofs.lesser.Reads as reads
-use Rattle.wide_bounds.proofs.lesser.Lts as lts
-use Rattle.wide_number.proofs.Wide.at_most.Reads as at-most-reads
 
 at-most-requires : tie.Need-at-most-requires
 at-most-requires c κs = search needs

@@ -2,9 +2,6 @@
 use borrow.Author.Needs.{needs}
 use Rattle.wide_bounds.proofs.with_cell.Statement.{statement}
 use Rattle.wide_bounds.proofs.with_cell.Tie as tie
-use Rattle.wide_bounds.proofs.with_cell.Reads as reads
-use Rattle.wide_bounds.proofs.with_cell.Lts as lts
-use Rattle.wide_bounds.proofs.least.Reads as least-reads
 
 least-requires : tie.Need-least-requires
 least-requires c κs = search needs

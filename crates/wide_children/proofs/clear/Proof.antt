@@ -12,10 +12,6 @@ use Rattle.wide_rows.specs.Word.{largest}
 use borrow.Author.Needs.{needs}
 use Rattle.wide_children.proofs.clear.Statement.{statement}
 use Rattle.wide_children.proofs.clear.Tie as tie
-use Rattle.wide_children.proofs.clear.Reads as reads
-use Rattle.wide_children.proofs.clear.Lts as lts
-use Rattle.wide_children.proofs.half_at.Reads as half-at-reads
-use Rattle.wide_lowest.proofs.lowest.Reads as lowest-reads
 
 half-at-requires : tie.Need-half-at-requires
 half-at-requires c κs = let s = c .before in let ready = s .pre .0 .2 in ((cut-whole largest (values (now (s .args .g))) (s .pre .0 .0), omega arith, s .pre .1 .0), λ e. ready .half-is (eqb-false _ 0 e))

@@ -7,10 +7,6 @@ use Rattle.wide_array.specs.Values.{values}
 use borrow.Author.Needs.{needs}
 use Rattle.wide_children.proofs.half_at.Statement.{statement}
 use Rattle.wide_children.proofs.half_at.Tie as tie
-use Rattle.wide_children.proofs.half_at.Reads as reads
-use Rattle.wide_children.proofs.half_at.Lts as lts
-use Rattle.cell_corners.proofs.side.Reads as side-reads
-use Rattle.wide_subdivision.proofs.halve.Reads as halve-reads
 
 side-requires : tie.Need-side-requires
 side-requires c κs = search needs

@@ -9,10 +9,6 @@ use Rattle.search_theory.specs.Lowest.{Passed, passed-none, passed-here, passed
 use Rattle.wide_array.specs.Values.{values, value-read}
 use Rattle.wide_lowest.proofs.lowest.Statement.{statement}
 use Rattle.wide_lowest.proofs.lowest.Tie as tie
-use Rattle.wide_lowest.proofs.lowest.Reads as reads
-use Rattle.wide_lowest.proofs.lowest.Lts as lts
-use Rattle.wide_array.proofs.at.Reads as at-reads
-use Rattle.wide_number.proofs.Wide.at_most_zero.Reads as at-most-zero-reads
 
 abbrev Inv-loop : tie.InvT-loop
 Inv-loop g k₀ k = Passed (values g) k

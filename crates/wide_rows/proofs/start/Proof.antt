@@ -4,16 +4,13 @@ use native.Mathlib.Omega.{arith}
 use lib.IntN.{ℤ, pos}
 use mir.Syntax.{w128}
 use Rattle.foundation.specs.Words.{arg, lit, times, args, within}
-use Rattle.wrapping_theory.specs.Words.{AreWords, value-fits}
+use Rattle.wrapping_theory.specs.Words.{value-fits}
 use Rattle.wrapping_theory.specs.Runs.{run-bounded}
 use Rattle.wide_number.specs.Meaning.{valueOf}
 use Rattle.wide_rows.specs.Word.{cutLargest}
 use borrow.Author.Needs.{needs}
 use Rattle.wide_rows.proofs.start.Statement.{statement}
 use Rattle.wide_rows.proofs.start.Tie as tie
-use Rattle.wide_rows.proofs.start.Reads as reads
-use Rattle.wide_rows.proofs.start.Lts as lts
-use Rattle.wide_number.proofs.Wide.four_times.Reads as four-times-reads
 
 module _ (s : tie.Start) where
   abbrev row : List ℤ

@@ -14,13 +14,6 @@ use Rattle.wide_rows.specs.Word.{cutLargest}
 use Rattle.wide_rows.specs.Rows.{read-row, row-within, row-put}
 use Rattle.wide_rows.proofs.upper_row.Statement.{statement}
 use Rattle.wide_rows.proofs.upper_row.Tie as tie
-use Rattle.wide_rows.proofs.upper_row.Reads as reads
-use Rattle.wide_rows.proofs.upper_row.Lts as lts
-use Rattle.wide_array.proofs.at.Reads as at-reads
-use Rattle.wide_rows.proofs.end.Reads as end-reads
-use Rattle.wide_rows.proofs.middle.Reads as middle-reads
-use Rattle.wide_rows.proofs.put_row.Reads as put-row-reads
-use Rattle.wide_rows.proofs.start.Reads as start-reads
 
 module _ (s : tie.Start) where
   small : (s .args .x < 27) × (s .args .y < 27) × (s .args .z < 27)

@@ -6,7 +6,6 @@ use lib.ListN.{length}
 use denote.Ref.{now}
 use borrow.Author.Needs.{needs}
 use Rattle.definitions.specs.Subdivision.{halve, Cell}
-use Rattle.expansion_theory.specs.Cut.{length-halve}
 use Rattle.verdict_theory.specs.Search.{Pass, visit as visited}
 use Rattle.verdict_theory.specs.Clear.{childControl}
 use Rattle.expansion_theory.specs.Control.{Cuttable}

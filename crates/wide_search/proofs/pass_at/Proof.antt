@@ -3,7 +3,6 @@ use mathlib.Core.Path.{_≡_, ap, _∙_}
 use Prim.Native.Nat.{ℕ}
 use lib.IntN.{ℤ, pos}
 use denote.Ref.{now}
-use Rattle.verdict_theory.specs.Search.{Pass}
 use Rattle.search_theory.specs.Levels.{fresh, whole-room, whole-held}
 use Rattle.wide_array.specs.Values.{values}
 use Rattle.wide_rows.specs.Word.{largest}
@@ -11,11 +10,6 @@ use Rattle.search_pass.specs.Meaning.{layout, passWords}
 use borrow.Author.Needs.{needs}
 use Rattle.wide_search.proofs.pass_at.Statement.{statement}
 use Rattle.wide_search.proofs.pass_at.Tie as tie
-use Rattle.wide_search.proofs.pass_at.Reads as reads
-use Rattle.wide_search.proofs.pass_at.Lts as lts
-use Rattle.search_pass.proofs.note.Reads as note-reads
-use Rattle.wide_number.proofs.Wide.from_i64.Reads as from-i64-reads
-use Rattle.wide_search.proofs.visit.Reads as visit-reads
 
 -- what is noted: nothing
 nothing-noted : (n : ℕ) {z : ℤ} → z ≡ pos 0 → layout 0 0 0 0 0 z n ≡ passWords (fresh n)

@@ -5,14 +5,6 @@ use Rattle.expansion_theory.specs.RowLaws.{lower-held, upper-held}
 use Rattle.wide_rows.specs.Rows.{Held, none-held-yet}
 use Rattle.wide_subdivision.proofs.halve.Statement.{statement}
 use Rattle.wide_subdivision.proofs.halve.Tie as tie
-use Rattle.wide_subdivision.proofs.halve.Reads as reads
-use Rattle.wide_subdivision.proofs.halve.Lts as lts
-use Rattle.wide_halves.proofs.lower_eta.Reads as lower-eta-reads
-use Rattle.wide_halves.proofs.lower_xi.Reads as lower-xi-reads
-use Rattle.wide_halves.proofs.lower_zeta.Reads as lower-zeta-reads
-use Rattle.wide_halves.proofs.upper_eta.Reads as upper-eta-reads
-use Rattle.wide_halves.proofs.upper_xi.Reads as upper-xi-reads
-use Rattle.wide_halves.proofs.upper_zeta.Reads as upper-zeta-reads
 
 module _ (s : tie.Start) (d h : ℕ) where
   ready : Held d h 0 (s .args .c .now) (s .args .out .now)
