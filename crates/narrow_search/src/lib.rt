@@ -10,9 +10,10 @@ ghost use Rattle.verdict_theory.specs.Search.{Pass, visit as visited};
 ghost use Rattle.search_theory.specs.Meaning.{cellOf, Small, deepest, Room, Held};
 ghost use Rattle.search_theory.specs.Levels.{wholeOf, fresh};
 ghost use Rattle.narrow_rows.specs.Word.{largest};
-ghost use Rattle.narrow_pass.specs.Meaning.{passWords};
+ghost use Rattle.search_pass.specs.Meaning.{passWords};
 use limits::RECORD_WORDS;
-use narrow_pass::PASS_WORDS;
+use search_pass::PASS_WORDS;
+use wide_number::Wide;
 
 // The due cells `left` levels below this one, in path order, after what was found before: a cell with a low coefficient is cut into
 // its eight children, by halves, and children that are known to have none are passed over.
@@ -20,16 +21,17 @@ fn visit(g: &[i64; 27], a: u32, b: u32, c: u32, left: u32, pass: &mut [i64; PASS
     requires { ⌜ Room largest (now g) a b c left × Held passWords (8 ^ left) (now pass) ⌝ }
     ensures { λ _. ⌜ ((p : Pass) → now (pass .entry) ≡ passWords p → now (pass .exit) ≡ passWords (visited left (cellOf a b c (now (g .entry))) p)) ⌝ }
 {
-    if narrow_pass::ended(pass) {
+    if search_pass::ended(pass) {
         return;
     }
     let n = narrow_lowest::lowest(g);
     if n == 0 {
-        narrow_opening::skip(1, left, pass);
+        search_opening::skip(1, left, pass);
         return;
     }
     if left == 0 {
-        narrow_opening::open_low(g, a, b, c, n, pass);
+        let value = g[n - 1];
+        search_opening::open_low(Wide::from_i64(value), a, b, c, n, pass);
         return;
     }
     let mut half = [0i64; 27];
@@ -37,7 +39,7 @@ fn visit(g: &[i64; 27], a: u32, b: u32, c: u32, left: u32, pass: &mut [i64; PASS
     let mut child = [0i64; 27];
     let mut k: u32 = 0;
     while k < 8 {
-        if narrow_pass::ended(pass) {
+        if search_pass::ended(pass) {
             return;
         }
         let over = narrow_children::clear(g, k, &mut half, &mut quarter);
@@ -49,7 +51,7 @@ fn visit(g: &[i64; 27], a: u32, b: u32, c: u32, left: u32, pass: &mut [i64; PASS
             visit(&child, 2 * a + x, 2 * b + y, 2 * c + z, left - 1, pass);
             k += 1;
         } else {
-            narrow_opening::skip(over, left - 1, pass);
+            search_opening::skip(over, left - 1, pass);
             k += over;
         }
     }
@@ -60,7 +62,7 @@ fn pass_at(g: &[i64; 27], level: u32, pass: &mut [i64; PASS_WORDS])
     requires { ⌜ Small largest (now g) level × (level ≤ deepest) × Held passWords (8 ^ level) (now pass) ⌝ }
     ensures { λ _. ⌜ ((p : Pass) → now (pass .entry) ≡ passWords p → now (pass .exit) ≡ passWords (visited level (wholeOf (now (g .entry))) (fresh (p .count)))) ⌝ }
 {
-    narrow_pass::note(0, 0, 0, 0, 0, 0, pass);
+    search_pass::note(0, 0, 0, 0, 0, Wide::from_i64(0), pass);
     visit(g, 0, 0, 0, level, pass);
 }
 
@@ -72,9 +74,9 @@ pub fn record(g: &[i64; 27], depth: u32) -> [i64; RECORD_WORDS]
     let mut m: u32 = 0;
     let mut r = [0i64; PASS_WORDS];
     pass_at(g, 0, &mut r);
-    while (m < depth) & narrow_pass::blocked(&r) {
+    while (m < depth) & search_pass::blocked(&r) {
         m += 1;
         pass_at(g, m, &mut r);
     }
-    narrow_pass::settled(m, &r)
+    search_pass::settled_in_one_word(m, &r)
 }

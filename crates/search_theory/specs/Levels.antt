@@ -2,13 +2,15 @@
 use mathlib.Core.Path.{_≡_, refl, sym, _∙_, ap, subst}
 use mathlib.Core.Bool.{Bool, true, false, true≢false}
 use mathlib.Core.List.{List}
-use Prim.Native.Nat.{ℕ, suc, _+_, _^_, _<_, _≤_}
-use native.Mathlib.Nat.{pow-le-pow-right, zero-lt-suc}
+use Prim.Native.Nat.{ℕ, suc, _+_, _*_, _^_, _<_, _≤_}
+use native.Mathlib.Nat.{le-trans, mul-le-mul-left, pow-le-pow-right, zero-lt-suc}
 use native.Mathlib.Omega.{arith}
-use lib.IntN.{ℤ}
-use Rattle.foundation.specs.Lists.{up}
+use lib.IntN.{ℤ, natAbs}
+use Rattle.foundation.specs.Lists.{All, all-map, up}
 use Rattle.definitions.specs.Coefficients.{coefficients}
-use Rattle.definitions.specs.Subdivision.{Cell, whole}
+use Rattle.definitions.specs.Subdivision.{Cell, whole, cells}
+use Rattle.expansion_theory.specs.Size.{cells-size}
+use Rattle.verdict_theory.specs.Named.{Names, named-value}
 use Rattle.definitions.specs.Verdict.{Verdict, valid, invalid, undecided, verdict, opened}
 use Rattle.verdict_theory.specs.Search.{Found, nothing, coefficient, point, Pass, pass, visit}
 use Rattle.verdict_theory.specs.Opened.{most}
@@ -67,6 +69,17 @@ settled xs m D r l h last = go (r .found) refl
     go nothing q = let w = pass-nothing xs m (h .earlier) (h .before) (r .count) (r .found) (h .made) q D l in (ap (outcome m) q ∙ w .0, w .1)
     go (coefficient f) q = let w = pass-last xs m (h .earlier) (h .before) (r .count) (r .found) (h .made) f q in let e = last (ap isBlocked q) in (ap (outcome m) q ∙ w .0 ∙ ap (verdict xs) e, w .1 ∙ ap (opened xs) e)
     go (point f) q = let w = pass-point xs m (h .earlier) (h .before) (r .count) (r .found) (h .made) f q D l in (ap (outcome m) q ∙ w .0, w .1)
+
+whole-within : (b : ℕ) (xs g : List ℤ) → g ≡ coefficients xs → All (λ v. natAbs v ≤ b) g → All (λ v. natAbs v ≤ b) (whole xs .control)
+unfolding whole
+whole-within b xs g e w = subst (All (λ v. natAbs v ≤ b)) e w
+
+-- the value that is named is one of the coefficients, so it is no larger than they
+pub named-small : (top : ℕ) (xs g : List ℤ) (D : ℕ) → g ≡ coefficients xs → Small top g D → (P : ℤ → Type 0) → ((v : ℤ) → natAbs v ≤ top → P v) → Names (λ f. P (f .value)) (verdict xs D)
+named-small top xs g D e small P h = named-value xs D P λ m l.
+    all-map (λ s. All (λ v. natAbs v ≤ small .bound * 64 ^ m) (s .control)) (λ s. All P (s .control))
+    (λ s. all-map (λ v. natAbs v ≤ small .bound * 64 ^ m) P (λ v q. h v (le-trans q (le-trans (mul-le-mul-left (small .bound) (pow-le-pow-right (zero-lt-suc 63) l)) (small .small)))) (s .control))
+    (cells xs m) (cells-size xs (small .bound) (whole-within (small .bound) xs g e (small .control .within)) m)
 
 -- ---- the count stays small
 most-next : (m : ℕ) → most (m + 1) ≡ most m + 8 ^ (m + 1)

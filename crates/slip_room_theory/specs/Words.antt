@@ -3,22 +3,20 @@ use mathlib.Core.Path.{_≡_, refl, sym, _∙_, ap, subst}
 use mathlib.Core.Bool.{not}
 use mathlib.Core.List.{List}
 use mathlib.Core.Option.{Option, none, some}
-use Prim.Native.Nat.{ℕ, zero, suc, _+_, _*_, _/_, _%_, _^_, _<_, _≤_}
+use Prim.Native.Nat.{ℕ, _+_, _*_, _/_, _%_, _^_, _<_, _≤_}
 use native.Mathlib.Nat.{le-trans, mul-le-mul-left, pow-le-pow-right}
 use native.Mathlib.Omega.{arith}
 use lib.ListN.{getD, length, take, drop, take-append-drop}
 use lib.IntN.{ℤ, pos, natAbs}
-use Rattle.foundation.specs.Lists.{All, all-left, all-right, all-map, all-both, all-getD-default, all-concat, all-tabulate, concatMap, up}
+use Rattle.foundation.specs.Lists.{All, all-left, all-right, all-map, all-getD-default, all-concat, all-tabulate, up}
 use Rattle.foundation.specs.Words.{within, sfits-below}
 use Rattle.definitions.specs.Limits.{base}
-use Rattle.definitions.specs.Subdivision.{Cell, cells}
-use Rattle.definitions.specs.Verdict.{Finding, cornersOf, coefficientsOf, Verdict, valid, invalid, undecided, verdict, opened}
+use Rattle.definitions.specs.Subdivision.{cells}
+use Rattle.definitions.specs.Verdict.{Finding, Verdict, valid, invalid, undecided, verdict, opened}
 use Rattle.definitions.specs.Record.{Fault, words, faultWords, verdictWords, recordOf}
 use Rattle.definitions.specs.Mesh.{missingIndex, namedTwice, pointsOf, outOfRange, usable, faultOf, elementRecord, records, report}
 use Rattle.expansion_theory.specs.Size.{coefficient-size}
-use Rattle.expansion_theory.specs.Cells.{CellOf, all-cells, corner-is}
-use Rattle.verdict_theory.specs.Findings.{first-has}
-use Rattle.verdict_theory.specs.Positive.{findings-of, corners-of}
+use Rattle.verdict_theory.specs.Named.{Names, named-value}
 use Rattle.verdict_theory.specs.Meaning.{Means, means, invalid-point, undecided-coefficient}
 use Rattle.verdict_theory.specs.Opened.{most, opened-most}
 use Rattle.verdict_theory.specs.Elements.{element-fault, element-points}
@@ -55,30 +53,17 @@ module _ (xs : List ℤ) (sized : length xs ≡ 24) (inside : outOfRange base xs
       (λ s. all-map (λ v. natAbs v ≤ size m) Largest (λ v l. le-trans l (level-largest m h)) (s .control))
       (cells xs m) (coefficient-size xs (base .range) (within (base .range) xs (points-within base xs inside sized)) m)
 
-  control-at : (s : Cell) (n : ℕ) → All Largest (s .control) → Largest (getD (s .control) n (pos 0))
-  control-at s n h = all-getD-default Largest (s .control) (pos 0) n (omega arith) h
-
-  coefficients-largest : (m : ℕ) → m ≤ base .depth → All (λ f. Largest (f .value)) (concatMap coefficientsOf (cells xs m))
-  coefficients-largest m h = all-concat (λ f. Largest (f .value)) coefficientsOf (cells xs m)
-      (all-map (λ s. All Largest (s .control)) (λ s. All (λ f. Largest (f .value)) (coefficientsOf s)) (λ s g. findings-of Largest s (λ n _. control-at s n g)) (cells xs m) (controls m h))
-
-  points-largest : (m : ℕ) → m ≤ base .depth → All (λ f. Largest (f .value)) (concatMap (cornersOf xs m) (cells xs m))
-  points-largest m h = all-concat (λ f. Largest (f .value)) (cornersOf xs m) (cells xs m)
-      (all-map (λ s. CellOf xs m s × All Largest (s .control)) (λ s. All (λ f. Largest (f .value)) (cornersOf xs m s))
-      (λ s g. corners-of xs (λ f. Largest (f .value)) m s (λ k l. subst Largest (corner-is xs m s (g .0) k l) (control-at s k (g .1))))
-      (cells xs m) (all-both (CellOf xs m) (λ s. All Largest (s .control)) (cells xs m) (all-cells xs m) (controls m h)))
-
-  words-held : (D n : ℕ) (v : Verdict) → D ≤ base .depth → n ≤ most (base .depth) → Means xs D v → All Held (verdictWords v n)
-  words-held D n (valid l) h k m =
+  words-held : (D n : ℕ) (v : Verdict) → D ≤ base .depth → n ≤ most (base .depth) → Means xs D v → Names (λ f. Largest (f .value)) v → All Held (verdictWords v n)
+  words-held D n (valid l) h k m v =
       let low = m .within in
       (omega arith, (omega arith, (omega arith, (omega arith, (omega arith, (omega arith, (omega arith, (omega arith, tt))))))))
-  words-held D n (invalid l f) h k m =
+  words-held D n (invalid l f) h k m v =
       let low = m .within in
       let p = invalid-point xs D l f m in
       let g = grid-small l (omega arith) in
-      let value = largest-held (f .value) (first-has (λ x. Largest (x .value)) (concatMap (cornersOf xs l) (cells xs l)) f (m .named) (points-largest l (omega arith))) in
+      let value = largest-held (f .value) v in
       (omega arith, (omega arith, (omega (arith, p .on-grid .0), (omega (arith, p .on-grid .1), (omega (arith, p .on-grid .2), (omega (arith, p .number), (value, (omega arith, tt))))))))
-  words-held D n (undecided l f) h k m =
+  words-held D n (undecided l f) h k m v =
       let level = m .level in
       let c = undecided-coefficient xs D l f m in
       let cell = c .of-level in
@@ -87,12 +72,12 @@ module _ (xs : List ℤ) (sized : length xs ≡ 24) (inside : outOfRange base xs
       let b = ap (λ (x : Finding). x .b) (c .is) in
       let d = ap (λ (x : Finding). x .c) (c .is) in
       let number = ap (λ (x : Finding). x .number) (c .is) in
-      let value = largest-held (f .value) (first-has (λ x. Largest (x .value)) (concatMap coefficientsOf (cells xs D)) f (m .named) (coefficients-largest D h)) in
+      let value = largest-held (f .value) v in
       (omega arith, (omega arith, (omega (arith, cell .a-below), (omega (arith, cell .b-below), (omega (arith, cell .c-below), (omega (arith, c .number), (value, (omega arith, tt))))))))
 
   pub record-held : (D : ℕ) → D ≤ base .depth → All Held (recordOf xs D)
   unfolding recordOf
-  record-held D h = words-held D (opened xs D) (verdict xs D) h (le-trans (opened-most xs D) (few-opened D h)) (means xs D)
+  record-held D h = words-held D (opened xs D) (verdict xs D) h (le-trans (opened-most xs D) (few-opened D h)) (means xs D) (named-value xs D Largest (λ m l. controls m (le-trans l h)))
 
 -- ---- the record of an element whose indices are numbers of 32 bits
 abbrev Index : ℕ → Type 0

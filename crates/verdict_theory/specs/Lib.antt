@@ -6,6 +6,7 @@ pub mod Stable
 pub mod Points
 pub mod Bounds
 pub mod Meaning
+pub mod Named
 pub mod Opened
 pub mod Kinds
 pub mod DepthMonotone

@@ -4,7 +4,6 @@ use mathlib.Core.Path.{_≡_, sym, _∙_, ap, subst}
 use mathlib.Core.List.{List}
 use Prim.Native.Nat.{ℕ, _*_, _^_, _≤_}
 use native.Mathlib.Nat.{le-trans, mul-le-mul-left, pow-le-pow-right, zero-lt-suc}
-use native.Mathlib.Omega.{arith}
 use lib.Dec.{lit≤}
 use lib.ListN.{length}
 use lib.IntN.{ℤ, natAbs}
@@ -12,11 +11,11 @@ use Rattle.foundation.specs.Lists.{All, all-map}
 use Rattle.foundation.specs.Words.{Within}
 use Rattle.definitions.specs.Coefficients.{coefficients}
 use Rattle.definitions.specs.Subdivision.{whole, cells}
-use Rattle.definitions.specs.Verdict.{Finding, Verdict, valid, invalid, undecided, verdict, opened}
+use Rattle.definitions.specs.Verdict.{Verdict, valid, invalid, undecided, verdict, opened}
 use Rattle.expansion_theory.specs.Expansion.{length-coefficients}
 use Rattle.expansion_theory.specs.Size.{whole-size, coefficient-size}
 use Rattle.verdict_theory.specs.Opened.{most, opened-most}
-use Rattle.verdict_theory.specs.Meaning.{Means, invalid-point, undecided-coefficient, means}
+use Rattle.verdict_theory.specs.Named.{Names, OnGrid, named-on-grid}
 use Rattle.search_theory.specs.Meaning.{Small, deepest}
 use Rattle.search_theory.specs.Levels.{most-less}
 use Rattle.element_vectors.specs.Range.{InRange}
@@ -56,22 +55,13 @@ module _ (xs : List ℤ) where
   opened-few D l = le-trans (opened-most xs D) (le-trans (most-less D l) (lit≤ tt))
 
   -- a grid number that is named is at most 256
-  abbrev pub OnGrid : Finding → Type 0
-  OnGrid f = (f .a ≤ 256) × (f .b ≤ 256) × (f .c ≤ 256)
-
-  abbrev pub NamesOnGrid : Verdict → Type 0
-  NamesOnGrid (valid l) = Unit
-  NamesOnGrid (invalid l f) = OnGrid f
-  NamesOnGrid (undecided l f) = OnGrid f
-
-  grid-most : (m : ℕ) → m ≤ deepest → 2 ^ m ≤ 256
-  grid-most m l = pow-le-pow-right (zero-lt-suc 1) l
-
-  pub named-on-grid : (D : ℕ) → D ≤ deepest → NamesOnGrid (verdict xs D)
-  named-on-grid D l = go (verdict xs D) (means xs D)
+  pub grid-small : (D : ℕ) → D ≤ deepest → Names (λ f. (f .a ≤ 256) × (f .b ≤ 256) × (f .c ≤ 256)) (verdict xs D)
+  grid-small D l = go (verdict xs D) (named-on-grid xs D)
     where
-      go : (v : Verdict) → Means xs D v → NamesOnGrid v
+      most : 2 ^ D ≤ 256
+      most = pow-le-pow-right (zero-lt-suc 1) l
+
+      go : (v : Verdict) → Names (OnGrid xs D) v → Names (λ f. (f .a ≤ 256) × (f .b ≤ 256) × (f .c ≤ 256)) v
       go (valid m) h = tt
-      go (invalid m f) h = let p = invalid-point xs D m f h .on-grid in let q = grid-most m (le-trans (h .within) l) in (le-trans (p .0) q, le-trans (p .1) q, le-trans (p .2) q)
-      go (undecided m f) h = let p = undecided-coefficient xs D m f h in let q = grid-most D l in let c = p .of-level in
-          subst OnGrid (sym (p .is)) (omega (arith, c .a-below, q), omega (arith, c .b-below, q), omega (arith, c .c-below, q))
+      go (invalid m f) h = (le-trans (h .0) most, le-trans (h .1) most, le-trans (h .2) most)
+      go (undecided m f) h = (le-trans (h .0) most, le-trans (h .1) most, le-trans (h .2) most)

@@ -30,7 +30,8 @@ fn visit(g: &[u64; 54], a: u32, b: u32, c: u32, left: u32, pass: &mut [i64; PASS
         return;
     }
     if left == 0 {
-        search_opening::open_low(wide_array::at(g, n - 1), a, b, c, n, pass);
+        let value = wide_array::at(g, n - 1);
+        search_opening::open_low(value, a, b, c, n, pass);
         return;
     }
     let mut half = [0u64; 54];

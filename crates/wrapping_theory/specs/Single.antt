@@ -1,20 +1,24 @@
 -- Numbers of one word as numbers of two: the sign fills the high word; and which numbers of two words one word holds.
 use mathlib.Core.Path.{_≡_, refl, sym, _∙_, ap}
 use mathlib.Core.Bool.{Bool, true, false, _&&_}
-use Prim.Native.Nat.{ℕ, zero, suc, _+_, _*_, _-_, _^_, _<_, _≤_}
-use native.Mathlib.Nat.{le-trans, le-add-right, mul-le-mul-right, le-of-lt, mul-le-mul, le-of-eq}
+use mathlib.Core.List.{[], _∷_}
+use Prim.Native.Nat.{ℕ, zero, suc, _+_, _*_, _-_, _%_, _^_, _<_, _≤_}
+use native.Mathlib.Nat.{le-trans, le-add-right, mul-le-mul-right, le-of-lt, mul-le-mul, le-of-eq, mod-lt}
 use native.Mathlib.Omega.{arith}
 use borrow.Author.Tests.{le-leb, lt-leb}
 use lib.Arith.{digits-lt, lt-of-le-ne}
-use lib.Dec.{lit≤}
-use lib.IntN.{ℤ, pos, negsuc, natAbs, _*ℤ_}
+use lib.Dec.{lit<, lit≤}
+use lib.IntN.{ℤ, pos, negsuc, natAbs, _+ℤ_, _*ℤ_}
 use lib.Signed.{mag}
 use mir.Syntax.{w64, w128}
-use mir.Val.{SFits, toZ}
-use mir.ValLaws.{toZ-pos, toZ-neg}
+use mir.Val.{Fits, SFits, toZ}
+use mir.ValLaws.{toZ-pos, toZ-neg, toZ-fits}
 use Rattle.foundation.specs.Magnitude.{magnitude-mul}
-use Rattle.foundation.specs.Words.{signedLimit}
-use Rattle.definitions.specs.TwoWords.{wordBase, value, inOneWord}
+use Rattle.foundation.specs.Polynomial.{var, add, mul, solve}
+use Rattle.foundation.specs.Words.{args, signedLimit}
+use Rattle.definitions.specs.TwoWords.{wordBase, value, remainder, lowWord, inOneWord}
+use Rattle.wrapping_theory.specs.Congruence.{Congruent, chained, divided, left-over}
+use Rattle.wrapping_theory.specs.Wrapping.{bits-congruent, one-alone}
 use Rattle.wrapping_theory.specs.Runs.{size-fits}
 use Rattle.wrapping_theory.specs.Words.{together, AreWords, Sign, plus, minus, sign, value-above, value-below}
 
@@ -74,3 +78,11 @@ one-word (negsuc n) f = f .sfits
 
 pub product-fits : (x y : ℤ) → SFits w64 x → SFits w64 y → SFits w128 (x *ℤ y)
 product-fits x y f g = size-fits w128 (signedLimit * signedLimit) (x *ℤ y) (le-trans (le-of-eq (magnitude-mul x y)) (mul-le-mul (one-word x f) (one-word y g))) tt
+
+-- ---- a number that one word holds is the signed number of its low word
+narrowed : (m k : ℕ) {a b : ℤ} → Congruent (m * k) a b → Congruent k a b
+narrowed m k {b = b} c = record { times = c .times *ℤ pos m; is = c .is ∙ solve (args (b ∷ c .times ∷ pos m ∷ pos k ∷ [])) (add (var 0) (mul (var 1) (mul (var 2) (var 3)))) (add (var 0) (mul (mul (var 1) (var 2)) (var 3))) tt }
+
+pub low-word-single : (z : ℤ) → SFits w64 z → toZ w64 (lowWord z) ≡ z
+low-word-single z f = let n = remainder (wordBase * wordBase) z in let w : Fits w64 (n % wordBase) = record { fits = mod-lt n (lit< tt) } in
+    one-alone w64 (toZ-fits w64 (n % wordBase) w) f (chained (bits-congruent w64 (n % wordBase) w) (chained (divided wordBase n) (narrowed wordBase wordBase (left-over (wordBase * wordBase) (lit< tt) z))))

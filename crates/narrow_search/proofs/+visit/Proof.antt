@@ -2,7 +2,10 @@
 use mathlib.Core.Path.{_≡_, refl, sym, _∙_, ap, subst}
 use Prim.Native.Nat.{ℕ, _+_, _*_, _-_, _^_, _≤_, _<_, zero-le}
 use native.Mathlib.Omega.{arith}
-use lib.ListN.{length}
+use lib.ListN.{getD, length}
+use lib.IntN.{pos}
+use mir.Syntax.{w64}
+use mir.ValLaws.{toZ-ofZ}
 use denote.Ref.{now}
 use borrow.Author.Needs.{needs}
 use Rattle.definitions.specs.Subdivision.{halve, Cell}
@@ -11,7 +14,7 @@ use Rattle.verdict_theory.specs.Search.{Pass, visit as visited}
 use Rattle.verdict_theory.specs.Clear.{childControl}
 use Rattle.expansion_theory.specs.Control.{Cuttable}
 use Rattle.search_theory.specs.Meaning.{cellOf, Room}
-use Rattle.narrow_pass.specs.Meaning.{passWords}
+use Rattle.search_pass.specs.Meaning.{passWords}
 use Rattle.search_theory.specs.Children.{Ready, Run, ready-first, after-some, child-made, cut-quarter, cut-small, grid-doubled, child-room, child-cell}
 use Rattle.search_theory.specs.Visit.{visit-ended, visit-none, visit-last, over, over-next, over-clear, over-ended, visit-over, one-held, skip-held, next-held}
 use Rattle.narrow_rows.specs.Word.{largest}
@@ -22,11 +25,12 @@ use Rattle.narrow_search.proofs.visit.Kinds as visit-kinds
 use Rattle.narrow_search.proofs.+visit.Lts-visit as visit-lts
 use Rattle.cell_corners.proofs.side.Reads as side-reads
 use Rattle.narrow_children.proofs.clear.Reads as clear-reads
-use Rattle.narrow_pass.proofs.ended.Reads as ended-reads
+use Rattle.search_pass.proofs.ended.Reads as ended-reads
 use Rattle.narrow_subdivision.proofs.halve.Reads as halve-reads
 use Rattle.narrow_lowest.proofs.lowest.Reads as lowest-reads
-use Rattle.narrow_opening.proofs.open_low.Reads as open-low-reads
-use Rattle.narrow_opening.proofs.skip.Reads as skip-reads
+use Rattle.wide_number.proofs.Wide.from_i64.Reads as from-i64-reads
+use Rattle.search_opening.proofs.open_low.Reads as open-low-reads
+use Rattle.search_opening.proofs.skip.Reads as skip-reads
 use Rattle.narrow_search.proofs.+visit.{statement}
 use Rattle.narrow_search.proofs.+visit.Tie.{close}
 
@@ -47,7 +51,7 @@ visit-μ-loop g a b c left pass₀ n half₀ quarter₀ child₀ k₀ pass half 
 
 -- what the calls ask and tell, in the order of the code
 abbrev known : ℕ → visit-lts.Claims
-known t = (ended-reads.Asked, ended-reads.Learnt, lowest-reads.Asked, lowest-reads.Learnt, skip-reads.Asked, skip-reads.Learnt, open-low-reads.Asked, open-low-reads.Learnt, clear-reads.Asked, clear-reads.Learnt, side-reads.Asked, side-reads.Learnt, halve-reads.Asked, halve-reads.Learnt, visit-below t, visit.Post)
+known t = (ended-reads.Asked, ended-reads.Learnt, lowest-reads.Asked, lowest-reads.Learnt, skip-reads.Asked, skip-reads.Learnt, from-i64-reads.Asked, from-i64-reads.Learnt, open-low-reads.Asked, open-low-reads.Learnt, clear-reads.Asked, clear-reads.Learnt, side-reads.Asked, side-reads.Learnt, halve-reads.Asked, halve-reads.Learnt, visit-below t, visit.Post)
 
 visit-ended-requires : (t : ℕ) → visit-lts.Need-ended-requires (known t) (visit-at t) visit.Post visit-Inv-loop visit-μ-loop
 visit-ended-requires t c κs = tt
@@ -65,13 +69,29 @@ visit-returns-2 : (t : ℕ) → visit-lts.Need-returns-2 (known t) (visit-at t) 
 visit-returns-2 t c p e = let s = c .before .before .before .before .before .before .before in let going = sym (c .before .before .before .before .before .ended .ensures p e) ∙ c .before .before .before .before .if1 .left in
     c .skip .ensures p e ∙ ap passWords (visit-none (cellOf (s .args .a) (s .args .b) (s .args .c) (now (s .args .g))) p going (s .args .left) (s .pre .1 .0 .small .control .sized) (sym (c .before .before .before .lowest .ensures .0) ∙ c .before .before .if2 .taken))
 
+visit-sub-value : (t : ℕ) → visit-lts.Need-sub-value (known t) (visit-at t) visit.Post visit-Inv-loop visit-μ-loop
+visit-sub-value t c = let some = c .before .if2 .left in omega arith
+
+visit-mul-value : (t : ℕ) → visit-lts.Need-mul-value (known t) (visit-at t) visit.Post visit-Inv-loop visit-μ-loop
+visit-mul-value t c = let some = c .before .if2 .left in record { fits = omega (arith, c .before .before .lowest .ensures .1) }
+
+visit-element-copy-out-value : (t : ℕ) → visit-lts.Need-element-copy-out-value (known t) (visit-at t) visit.Post visit-Inv-loop visit-μ-loop
+visit-element-copy-out-value t c = let some = c .before .if2 .left in omega (arith, c .before .before .lowest .ensures .1)
+
+visit-from-i64-requires : (t : ℕ) → visit-lts.Need-from-i64-requires (known t) (visit-at t) visit.Post visit-Inv-loop visit-μ-loop
+visit-from-i64-requires t c κs = tt
+
 visit-open-low-requires : (t : ℕ) → visit-lts.Need-open-low-requires (known t) (visit-at t) visit.Post visit-Inv-loop visit-μ-loop
-visit-open-low-requires t c κs = let s = c .before .before .before .before .before .before .before in let n = c .before .before .before .lowest in let some = c .before .before .if2 .left in
-    ((subst (Room largest (now (s .args .g)) (s .args .a) (s .args .b) (s .args .c)) (c .before .if3 .taken) (s .pre .1 .0), one-held passWords (s .args .left) (now (s .args .pass)) (s .pre .1 .1)), (n .ensures .0, omega arith, n .ensures .1))
+visit-open-low-requires t c κs = let s = c .before .before .before .before .before .before .before .before .before in let n = c .before .before .before .before .before .lowest in let some = c .before .before .before .before .if2 .left in
+    let room = subst (Room largest (now (s .args .g)) (s .args .a) (s .args .b) (s .args .c)) (c .before .before .before .if3 .taken) (s .pre .1 .0) in
+    (room .a-grid, room .b-grid, room .c-grid, one-held passWords (s .args .left) (now (s .args .pass)) (s .pre .1 .1), omega arith, n .ensures .1)
 
 visit-returns-3 : (t : ℕ) → visit-lts.Need-returns-3 (known t) (visit-at t) visit.Post visit-Inv-loop visit-μ-loop
-visit-returns-3 t c p e = let s = c .before .before .before .before .before .before .before .before in let going = sym (c .before .before .before .before .before .before .ended .ensures p e) ∙ c .before .before .before .before .before .if1 .left in
-    c .open-low .ensures p e going ∙ ap passWords (visit-last (cellOf (s .args .a) (s .args .b) (s .args .c) (now (s .args .g))) p going (s .args .left) (c .before .before .if3 .taken))
+visit-returns-3 t c p e = let s = c .before .before .before .before .before .before .before .before .before .before in let n = c .before .before .before .before .before .before .lowest in let some = c .before .before .before .before .before .if2 .left in
+    let going = sym (c .before .before .before .before .before .before .before .before .ended .ensures p e) ∙ c .before .before .before .before .before .before .before .if1 .left in
+    let value = toZ-ofZ w64 (getD (now (s .args .g)) (n .result - 1) (pos 0)) (record { sfits = c .before .before .before .value .given }) in
+    c .open-low .ensures (now (s .args .g)) (n .ensures .0) (c .before .before .from-i64 .ensures ∙ value) p e going
+    ∙ ap passWords (visit-last (cellOf (s .args .a) (s .args .b) (s .args .c) (now (s .args .g))) p going (s .args .left) (c .before .before .before .before .if3 .taken))
 
 visit-loop-holds : (t : ℕ) → visit-lts.Need-loop-holds (known t) (visit-at t) visit.Post visit-Inv-loop visit-μ-loop
 visit-loop-holds t c = (zero-le, λ h. ready-first (now (c .before .before .before .before .before .before .args .g)) _ _ refl refl, refl, λ p e. e)
@@ -206,6 +226,10 @@ pub +visit-spec : {M : Type 1} → statement M
     (visit-lowest-requires t)
     (visit-skip-requires t)
     (visit-returns-2 t)
+    (visit-sub-value t)
+    (visit-mul-value t)
+    (visit-element-copy-out-value t)
+    (visit-from-i64-requires t)
     (visit-open-low-requires t)
     (visit-returns-3 t)
     (visit-loop-holds t)

@@ -1,7 +1,7 @@
--- `narrow_pass::settled` meets its contract: each word is read back whole, and the level stands behind the first. Assumes nothing.
-use mathlib.Core.Path.{_≡_, _∙_}
+-- `search_pass::settled_in_one_word` meets its contract: each word is read back whole, and the level stands behind the first. Assumes nothing.
+use mathlib.Core.Path.{_∙_}
 use mathlib.Core.List.{[], _∷_}
-use Prim.Native.Nat.{ℕ, _<_, _^_}
+use Prim.Native.Nat.{_<_}
 use native.Mathlib.Omega.{arith}
 use lib.ListN.{getD}
 use lib.IntN.{pos}
@@ -10,9 +10,9 @@ use mir.ValLaws.{toZ-ofZ, toZ-pos}
 use denote.Ref.{now}
 use borrow.Author.Needs.{needs}
 use Rattle.foundation.specs.Words.{signedLimit}
-use Rattle.narrow_pass.proofs.Passes.{settled-words}
-use Rattle.narrow_pass.proofs.settled.Statement.{statement}
-use Rattle.narrow_pass.proofs.settled.Tie as tie
+use Rattle.search_pass.proofs.Passes.{settled-in-one}
+use Rattle.search_pass.proofs.settled_in_one_word.Statement.{statement}
+use Rattle.search_pass.proofs.settled_in_one_word.Tie as tie
 
 element-copy-out-kind : tie.Need-element-copy-out-kind
 element-copy-out-kind c = search needs
@@ -29,8 +29,8 @@ element-copy-out-c c = search needs
 element-copy-out-number : tie.Need-element-copy-out-number
 element-copy-out-number c = search needs
 
-element-copy-out-value : tie.Need-element-copy-out-value
-element-copy-out-value c = search needs
+element-copy-out-low : tie.Need-element-copy-out-low
+element-copy-out-low c = search needs
 
 element-copy-out-count : tie.Need-element-copy-out-count
 element-copy-out-count c = search needs
@@ -39,9 +39,9 @@ cast-t12 : tie.Need-cast-t12
 cast-t12 c = search needs
 
 returns : tie.Need-returns
-returns c p e =
-    let value = c .before in
-    let number = value .before in
+returns c p e h =
+    let low = c .before in
+    let number = low .before in
     let z = number .before in
     let y = z .before in
     let x = y .before in
@@ -56,13 +56,13 @@ returns c p e =
     ∷ toZ-ofZ w64 (getD ws 2 (pos 0)) (record { sfits = y .b .given }) i
     ∷ toZ-ofZ w64 (getD ws 3 (pos 0)) (record { sfits = z .c .given }) i
     ∷ toZ-ofZ w64 (getD ws 4 (pos 0)) (record { sfits = number .number .given }) i
-    ∷ toZ-ofZ w64 (getD ws 5 (pos 0)) (record { sfits = value .value .given }) i
-    ∷ toZ-ofZ w64 (getD ws 6 (pos 0)) (record { sfits = c .count .given }) i
+    ∷ toZ-ofZ w64 (getD ws 5 (pos 0)) (record { sfits = low .low .given }) i
+    ∷ toZ-ofZ w64 (getD ws 7 (pos 0)) (record { sfits = c .count .given }) i
     ∷ [])
-    ∙ settled-words ws p (s .args .level) e
+    ∙ settled-in-one ws p (s .args .level) e h
 
-pub settled-spec : {M : Type 1} → statement M
-settled-spec =
+pub settled-in-one-word-spec : {M : Type 1} → statement M
+settled-in-one-word-spec =
     tie.close
     (tie.spec
     element-copy-out-kind
@@ -70,7 +70,7 @@ settled-spec =
     element-copy-out-b
     element-copy-out-c
     element-copy-out-number
-    element-copy-out-value
+    element-copy-out-low
     element-copy-out-count
     cast-t12
     returns)
