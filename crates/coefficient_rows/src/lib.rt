@@ -32,8 +32,9 @@ fn row(
     sum
 }
 
-// Rows first up to end against the volumes, each into its place of out; the rows before them stand there.
-fn put_rows(
+// Rows first up to end against the volumes, each into its place of out; the rows before them stand there. Where a caller writes out the ends
+// and has the lists at hand, the compiler writes out the rows and, knowing their lists, their sums.
+pub fn put_rows(
     starts: &[usize; 28],
     columns: &[usize; 112],
     values: &[i64; 112],
@@ -54,8 +55,7 @@ fn put_rows(
     }
 }
 
-// All 27 rows: the corners', the edges', the faces' and the centre's. With the ends of each of the four written out, the compiler writes out
-// the rows and, knowing their lists, their sums.
+// All 27 rows: the corners', the edges', the faces' and the centre's.
 pub fn rows(v: &[i64; 20]) -> [i64; 27]
     requires { ⌜ WithinLimits (now v) ⌝ }
     ensures { λ r. ⌜ r ≡ tabulate (λ n. dot integers (row n) (now (v .entry))) 0 27 ⌝ }

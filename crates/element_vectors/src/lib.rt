@@ -2,7 +2,7 @@
 // volumes. Nodes go by their numbers, 1 to 8; coordinates may be any numbers of 32 bits.
 ghost use mathlib.Core.Path.{_≡_};
 ghost use mathlib.Core.List.{[], _∷_};
-ghost use Prim.Native.Nat.{_-_, _<_, _≤_};
+ghost use Prim.Native.Nat.{_+_, _-_, _<_, _≤_};
 ghost use lib.IntN.{natAbs};
 ghost use Rattle.foundation.specs.Polynomial.{integers};
 ghost use Rattle.definitions.specs.Jacobian.{nodesOf, det};
@@ -20,12 +20,20 @@ fn coordinate(p: &[i32; 24], a: usize, e: usize) -> i64
     p[3 * (a - 1) + e] as i64
 }
 
+// The difference of two nodes' coordinates on axis e.
+fn difference(p: &[i32; 24], a: usize, b: usize, e: usize) -> i64
+    requires { ⌜ Node a × Node b × (e < 3) ⌝ }
+    ensures { λ r. ⌜ (r ≡ edge integers (nodesOf (now (p .entry))) a b e) × (natAbs (edge integers (nodesOf (now (p .entry))) a b e) ≤ widest + widest) ⌝ }
+{
+    coordinate(p, b, e) - coordinate(p, a, e)
+}
+
 // From node a to node b on axis e.
 pub fn edge(p: &[i32; 24], a: usize, b: usize, e: usize) -> i64
     requires { ⌜ Node a × Node b × (e < 3) ⌝ }
     ensures { λ r. ⌜ r ≡ edge integers (nodesOf (now (p .entry))) a b e ⌝ }
 {
-    coordinate(p, b, e) - coordinate(p, a, e)
+    difference(p, a, b, e)
 }
 
 // From node a to the middle of nodes b and c on axis e, twice.
@@ -33,8 +41,7 @@ pub fn middle(p: &[i32; 24], a: usize, b: usize, c: usize, e: usize) -> i64
     requires { ⌜ Node a × Node b × Node c × (e < 3) ⌝ }
     ensures { λ r. ⌜ r ≡ middle integers (nodesOf (now (p .entry))) a b c e ⌝ }
 {
-    let start = coordinate(p, a, e);
-    (coordinate(p, b, e) - start) + (coordinate(p, c, e) - start)
+    difference(p, a, b, e) + difference(p, a, c, e)
 }
 
 // The determinant of the vectors u, v, w.

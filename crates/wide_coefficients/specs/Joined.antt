@@ -1,33 +1,33 @@
 -- The rows of the table against volumes in two digits: a row is linear, so it may be worked against each digit for itself.
 use mathlib.Core.Path.{_≡_, refl, sym, _∙_, ap, ap₂, subst}
-use mathlib.Core.List.{List, [], _∷_}
+use mathlib.Core.List.{List, [], _∷_, map}
 use Prim.Native.Nat.{ℕ, _+_, _<_}
-use native.Mathlib.Omega.{arith}
 use lib.ListN.{length}
 use lib.IntN.{ℤ, pos, _+ℤ_, _*ℤ_}
 use Rattle.foundation.specs.Filled.{Filled, none-filled, one-filled}
 use Rattle.foundation.specs.Lists.{tabulate, tabulate-at, tabulate-cong}
-use Rattle.foundation.specs.Polynomial.{var, con, add, mul, integers, solve}
+use Rattle.foundation.specs.Polynomial.{Expr, var, con, add, mul, integers, solve}
 use Rattle.foundation.specs.Words.{args}
-use Rattle.definitions.specs.Jacobian.{nodesOf}
+use Rattle.definitions.specs.Jacobian.{Nodes, nodesOf}
 use Rattle.definitions.specs.Coefficients.{volumes, row, dot, coefficients}
 use Rattle.definitions.specs.TwoWords.{value}
 use Rattle.wide_array.specs.Values.{putNumber, put-length, values, values-length, values-put}
-use Rattle.wide_volumes.specs.Digits.{upper, lower, digits, digits-length, joins, digits-joined}
+use Rattle.wide_volumes.specs.Digits.{upper, lower, digits, whole, pairs, uppers-are, lowers-are, volumes-are}
 
 -- number k of those whose digits are in the two lists
 abbrev pub joinAt : List ℤ → List ℤ → ℕ → ℤ
-joinAt high low k = pos 2048 *ℤ args high k +ℤ args low k
+joinAt high low k = whole (args high k, args low k)
 
-dot-joined : (cs hs ls : List ℤ) → length hs ≡ length ls → dot integers cs (joins hs ls) ≡ pos 2048 *ℤ dot integers cs hs +ℤ dot integers cs ls
-dot-joined [] hs ls e = refl
-dot-joined (c ∷ cs) [] [] e = refl
-dot-joined (c ∷ cs) [] (l ∷ ls) e = absurd (omega (arith, e))
-dot-joined (c ∷ cs) (h ∷ hs) [] e = absurd (omega (arith, e))
-dot-joined (c ∷ cs) (h ∷ hs) (l ∷ ls) e = ap (λ (z : ℤ). c *ℤ (pos 2048 *ℤ h +ℤ l) +ℤ z) (dot-joined cs hs ls (omega (arith, e)))
-    ∙ solve (args (c ∷ h ∷ l ∷ dot integers cs hs ∷ dot integers cs ls ∷ []))
-    (add (mul (var 0) (add (mul (con (pos 2048)) (var 1)) (var 2))) (add (mul (con (pos 2048)) (var 3)) (var 4)))
-    (add (mul (con (pos 2048)) (add (mul (var 0) (var 1)) (var 3))) (add (mul (var 0) (var 2)) (var 4))) tt
+-- a row against volumes, from the row against either digit
+dot-whole : (cs : List ℤ) (ds : List (ℤ × ℤ)) → dot integers cs (map whole ds) ≡ whole (dot integers cs (map (λ (d : ℤ × ℤ). d .0) ds), dot integers cs (map (λ (d : ℤ × ℤ). d .1) ds))
+dot-whole [] ds = refl
+dot-whole (c ∷ cs) [] = refl
+dot-whole (c ∷ cs) (d ∷ ds) = ap (λ (z : ℤ). c *ℤ whole d +ℤ z) (dot-whole cs ds)
+    ∙ solve (args (c ∷ d .0 ∷ d .1 ∷ dot integers cs (map (λ (d : ℤ × ℤ). d .0) ds) ∷ dot integers cs (map (λ (d : ℤ × ℤ). d .1) ds) ∷ []))
+    (add (mul (var 0) (joined (var 1) (var 2))) (joined (var 3) (var 4))) (joined (add (mul (var 0) (var 1)) (var 3)) (add (mul (var 0) (var 2)) (var 4))) tt
+  where
+    joined : Expr → Expr → Expr
+    joined a b = add (mul (con (pos 2048)) a) b
 
 -- the 27 rows against volumes
 abbrev rowsAgainst : List ℤ → List ℤ
@@ -35,18 +35,18 @@ rowsAgainst vs = tabulate (λ n. dot integers (row n) vs) 0 27
 
 joined-rows : (xs : List ℤ) → tabulate (joinAt (rowsAgainst (digits upper (nodesOf xs))) (rowsAgainst (digits lower (nodesOf xs)))) 0 27 ≡ coefficients xs
 unfolding coefficients
-joined-rows xs = tabulate-cong (joinAt (rowsAgainst above) (rowsAgainst below)) (λ n. dot integers (row n) (volumes integers (nodesOf xs))) 0 27 each
+joined-rows xs = tabulate-cong (joinAt (rowsAgainst (digits upper x)) (rowsAgainst (digits lower x))) (λ n. dot integers (row n) (volumes integers x)) 0 27 each
   where
-    above : List ℤ
-    above = digits upper (nodesOf xs)
+    x : Nodes ℤ
+    x = nodesOf xs
 
-    below : List ℤ
-    below = digits lower (nodesOf xs)
+    against : (ℤ → ℤ) → ℕ → ℤ
+    against f n = dot integers (row n) (digits f x)
 
-    each : (n : ℕ) → n < 0 + 27 → joinAt (rowsAgainst above) (rowsAgainst below) n ≡ dot integers (row n) (volumes integers (nodesOf xs))
-    each n h = ap₂ (λ (a b : ℤ). pos 2048 *ℤ a +ℤ b) (tabulate-at (λ m. dot integers (row m) above) 27 n (pos 0) h) (tabulate-at (λ m. dot integers (row m) below) 27 n (pos 0) h)
-        ∙ sym (dot-joined (row n) above below (digits-length upper (nodesOf xs) ∙ sym (digits-length lower (nodesOf xs))))
-        ∙ ap (dot integers (row n)) (digits-joined (nodesOf xs))
+    each : (n : ℕ) → n < 0 + 27 → joinAt (rowsAgainst (digits upper x)) (rowsAgainst (digits lower x)) n ≡ dot integers (row n) (volumes integers x)
+    each n h = ap₂ (λ (a b : ℤ). whole (a, b)) (tabulate-at (against upper) 27 n (pos 0) h ∙ ap (dot integers (row n)) (uppers-are x)) (tabulate-at (against lower) 27 n (pos 0) h ∙ ap (dot integers (row n)) (lowers-are x))
+        ∙ sym (dot-whole (row n) (pairs x))
+        ∙ ap (dot integers (row n)) (volumes-are x)
 
 -- rows worked against the two digits, joined: the coefficients
 pub coefficients-joined : (xs : List ℤ) {high low uppers lowers : List ℤ} → high ≡ digits upper (nodesOf xs) → low ≡ digits lower (nodesOf xs)

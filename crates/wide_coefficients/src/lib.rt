@@ -49,7 +49,7 @@ fn put_joined(high: &[i64; 27], low: &[i64; 27], out: &mut [u64; 54])
 
 // The 27 coefficients, times 8, in the order of their numbers. The eight points p are in place order, x, y, z of each. All of out is written.
 pub fn coefficients(p: &[i32; 24], out: &mut [u64; 54])
-    requires { ⌜ InRange wideRange (now p) ⌝ }
+    requires { ⌜ InRange wideRange (now p) ⌝ ∗ ⌜ length (now out) ≡ 54 ⌝ }
     ensures { λ _. ⌜ values (now (out .exit)) ≡ coefficients (now (p .entry)) ⌝ ∗ ⌜ length (now (out .exit)) ≡ 54 ⌝ }
 {
     let mut high = [0i64; 20];
@@ -57,6 +57,5 @@ pub fn coefficients(p: &[i32; 24], out: &mut [u64; 54])
     wide_volumes::digits(p, &mut high, &mut low);
     let uppers = coefficient_rows::rows(&high);
     let lowers = coefficient_rows::rows(&low);
-    *out = [0u64; 54];
     put_joined(&uppers, &lowers, out);
 }

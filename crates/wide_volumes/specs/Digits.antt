@@ -3,7 +3,7 @@ use mathlib.Core.Path.{_≡_, refl, sym, _∙_, ap, ap₂, subst}
 use mathlib.Core.List.{List, [], _∷_, _++_, map}
 use Prim.Native.Nat.{ℕ, suc, _+_, _*_, _-_, _/_, _%_, _<_, _≤_}
 use native.Mathlib.Omega.{arith}
-use lib.ListN.{getD, length, List·getD-append}
+use lib.ListN.{getD, List·getD-append}
 use lib.Seq.{getD-append-add}
 use lib.IntN.{ℤ, pos, negsuc, negℤ, natAbs, _+ℤ_, _-ℤ_, _*ℤ_}
 use lib.Signed.{shrZ}
@@ -61,23 +61,14 @@ edgeDigit f x t = let n : ℕ → ℕ = λ i. getD t i 0 in det integers (λ e. 
 unfoldable pub digits : (ℤ → ℤ) → Nodes ℤ → List ℤ
 digits f x = map (cornerDigit f x) cornerTetrahedra ++ map (edgeDigit f x) edgeTetrahedra
 
-pub digits-length : (f : ℤ → ℤ) (x : Nodes ℤ) → length (digits f x) ≡ 20
-unfolding digits
-digits-length f x = refl
-
--- ---- numbers from their digits, place by place
-abbrev pub joins : List ℤ → List ℤ → List ℤ
-joins [] ls = []
-joins (h ∷ hs) [] = []
-joins (h ∷ hs) (l ∷ ls) = (pos 2048 *ℤ h +ℤ l) ∷ joins hs ls
-
-joins-mapped : {A : Type 0} (f g h : A → ℤ) → ((x : A) → pos 2048 *ℤ f x +ℤ g x ≡ h x) → (xs : List A) (hs ls : List ℤ) → joins (map f xs ++ hs) (map g xs ++ ls) ≡ map h xs ++ joins hs ls
-joins-mapped f g h e [] hs ls = refl
-joins-mapped f g h e (x ∷ xs) hs ls = ap₂ _∷_ (e x) (joins-mapped f g h e xs hs ls)
+-- ---- volumes from their digits
+-- the number of two digits, the upper and the lower
+abbrev pub whole : ℤ × ℤ → ℤ
+whole d = pos 2048 *ℤ d .0 +ℤ d .1
 
 -- a determinant is linear in its first vector
-det-joined : (u v w : ℕ → ℤ) → pos 2048 *ℤ det integers (λ e. upper (u e)) v w +ℤ det integers (λ e. lower (u e)) v w ≡ det integers u v w
-det-joined u v w = solve (args (u 0 ∷ u 1 ∷ u 2 ∷ upper (u 0) ∷ upper (u 1) ∷ upper (u 2) ∷ v 0 ∷ v 1 ∷ v 2 ∷ w 0 ∷ w 1 ∷ w 2 ∷ []))
+det-whole : (u v w : ℕ → ℤ) → whole (det integers (λ e. upper (u e)) v w, det integers (λ e. lower (u e)) v w) ≡ det integers u v w
+det-whole u v w = solve (args (u 0 ∷ u 1 ∷ u 2 ∷ upper (u 0) ∷ upper (u 1) ∷ upper (u 2) ∷ v 0 ∷ v 1 ∷ v 2 ∷ w 0 ∷ w 1 ∷ w 2 ∷ []))
     (add (mul (con (pos 2048)) (det expressions above second third)) (det expressions below second third)) (det expressions (λ e. var e) second third) tt
   where
     above : ℕ → Expr
@@ -92,17 +83,31 @@ det-joined u v w = solve (args (u 0 ∷ u 1 ∷ u 2 ∷ upper (u 0) ∷ upper (u
     third : ℕ → Expr
     third e = var (9 + e)
 
-pub digits-joined : (x : Nodes ℤ) → joins (digits upper x) (digits lower x) ≡ volumes integers x
-unfolding digits
-digits-joined x =
-    joins-mapped (cornerDigit upper x) (cornerDigit lower x) (cornerVolume integers x) corner cornerTetrahedra (map (edgeDigit upper x) edgeTetrahedra) (map (edgeDigit lower x) edgeTetrahedra)
-    ∙ ap (λ l. map (cornerVolume integers x) cornerTetrahedra ++ l) (joins-mapped (edgeDigit upper x) (edgeDigit lower x) (edgeVolume integers x) at-middle edgeTetrahedra [] [])
-  where
-    corner : (t : List ℕ) → pos 2048 *ℤ cornerDigit upper x t +ℤ cornerDigit lower x t ≡ cornerVolume integers x t
-    corner t = let n : ℕ → ℕ = λ i. getD t i 0 in det-joined (edge integers x (n 0) (n 1)) (edge integers x (n 0) (n 2)) (edge integers x (n 0) (n 3))
+-- the digits of the twenty volumes, the two of each together
+unfoldable pub pairs : Nodes ℤ → List (ℤ × ℤ)
+pairs x = map (λ t. (cornerDigit upper x t, cornerDigit lower x t)) cornerTetrahedra ++ map (λ t. (edgeDigit upper x t, edgeDigit lower x t)) edgeTetrahedra
 
-    at-middle : (t : List ℕ) → pos 2048 *ℤ edgeDigit upper x t +ℤ edgeDigit lower x t ≡ edgeVolume integers x t
-    at-middle t = let n : ℕ → ℕ = λ i. getD t i 0 in det-joined (edge integers x (n 0) (n 1)) (middle integers x (n 0) (n 2) (n 3)) (middle integers x (n 0) (n 4) (n 5))
+pub uppers-are : (x : Nodes ℤ) → digits upper x ≡ map (λ (d : ℤ × ℤ). d .0) (pairs x)
+unfolding digits pairs
+uppers-are x = refl
+
+pub lowers-are : (x : Nodes ℤ) → digits lower x ≡ map (λ (d : ℤ × ℤ). d .1) (pairs x)
+unfolding digits pairs
+lowers-are x = refl
+
+wholes : (f g h : List ℕ → ℤ) → ((t : List ℕ) → whole (f t, g t) ≡ h t) → (ts : List (List ℕ)) → map whole (map (λ t. (f t, g t)) ts) ≡ map h ts
+wholes f g h e [] = refl
+wholes f g h e (t ∷ ts) = ap₂ _∷_ (e t) (wholes f g h e ts)
+
+pub volumes-are : (x : Nodes ℤ) → map whole (pairs x) ≡ volumes integers x
+unfolding pairs
+volumes-are x = ap₂ _++_ (wholes (cornerDigit upper x) (cornerDigit lower x) (cornerVolume integers x) corner cornerTetrahedra) (wholes (edgeDigit upper x) (edgeDigit lower x) (edgeVolume integers x) at-middle edgeTetrahedra)
+  where
+    corner : (t : List ℕ) → whole (cornerDigit upper x t, cornerDigit lower x t) ≡ cornerVolume integers x t
+    corner t = let n : ℕ → ℕ = λ i. getD t i 0 in det-whole (edge integers x (n 0) (n 1)) (edge integers x (n 0) (n 2)) (edge integers x (n 0) (n 3))
+
+    at-middle : (t : List ℕ) → whole (edgeDigit upper x t, edgeDigit lower x t) ≡ edgeVolume integers x t
+    at-middle t = let n : ℕ → ℕ = λ i. getD t i 0 in det-whole (edge integers x (n 0) (n 1)) (middle integers x (n 0) (n 2) (n 3)) (middle integers x (n 0) (n 4) (n 5))
 
 -- ---- the digit at each place
 module _ (f : ℤ → ℤ) (x : Nodes ℤ) {k : ℕ} {t : List ℕ} where

@@ -26,14 +26,22 @@ coefficients-are xs {cs = cs} p q = subst (λ ws. cs ≡ tabulate (λ n. dot int
 within-limits : {vs : List ℤ} → InRange volumeLimit vs → WithinLimits vs
 within-limits h = record { small = λ i. le-trans (h .small i) (split-cases (λ m. volumeLimit ≤ m) (lit≤ tt) (lit≤ tt) 8 i) }
 
+lists-requires : tie.Need-lists-requires
+lists-requires c κs = search needs
+
 volumes-requires : tie.Need-volumes-requires
 volumes-requires c κs = search needs
 
+-- what is known after the call of volumes, seen from the call of rows
+abbrev after-volumes : tie.After-v → tie.After-volumes
+after-volumes c = c .before .before .before .before
+
 rows-requires : tie.Need-rows-requires
-rows-requires c κs = let d = c .before in within-limits (subst (InRange volumeLimit) (sym (d .volumes .ensures)) (volumes-small (d .before .pre)))
+rows-requires c κs = let d = after-volumes c in let l = d .before .before .before .before in
+    (l .lists .ensures, within-limits (subst (InRange volumeLimit) (sym (d .volumes .ensures)) (volumes-small (l .before .pre))))
 
 returns : tie.Need-returns
-returns c = let d = c .before .before in coefficients-are (d .before .args .p .now) (d .volumes .ensures) (c .rows .ensures)
+returns c = let d = after-volumes (c .before) in coefficients-are (d .before .before .before .before .before .args .p .now) (d .volumes .ensures) (c .rows .ensures)
 
 pub coefficients-spec : {M : Type 1} → statement M
-coefficients-spec = tie.close (tie.spec volumes-requires rows-requires returns)
+coefficients-spec = tie.close (tie.spec lists-requires volumes-requires rows-requires returns)
