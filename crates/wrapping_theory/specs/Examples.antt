@@ -1,6 +1,5 @@
 -- Numbers of two words by example: what words are worth, and the words of whole numbers.
-use mathlib.Core.Path.{_≡_}
-use mathlib.Core.Bool.{Bool, true, false, _&&_}
+use mathlib.Core.Bool.{Bool, true, false, not, _&&_}
 use mathlib.Core.List.{List, [], _∷_}
 use Prim.Native.Nat.{ℕ, _-_, _^_}
 use lib.Dec.{T, eqb}
@@ -48,12 +47,10 @@ pub examples-hold : T (allHold examples)
 unfolding value
 examples-hold = tt
 
--- past the ends a number turns round, at every width; which numbers one word holds
-turned : List Bool
-turned =
-    same (wrapped w128 (pos (2 ^ 127))) (negsuc (2 ^ 127 - 1))
-    ∷ same (wrapped w128 (negsuc (2 ^ 127))) (pos (2 ^ 127 - 1))
-    ∷ same (wrapped w64 (pos (2 ^ 63))) (negsuc (2 ^ 63 - 1))
-    ∷ inOneWord (pos (2 ^ 63 - 1))
-    ∷ inOneWord (negsuc (2 ^ 63 - 1))
-    ∷ []
+-- past the ends a number turns round, at any width; which numbers one word holds
+pub turned-hold : T (same (wrapped w128 (pos (2 ^ 127))) (negsuc (2 ^ 127 - 1))
+    && (same (wrapped w128 (negsuc (2 ^ 127))) (pos (2 ^ 127 - 1))
+    && (same (wrapped w64 (pos (2 ^ 63))) (negsuc (2 ^ 63 - 1))
+    && (inOneWord (pos (2 ^ 63 - 1)) && (inOneWord (negsuc (2 ^ 63 - 1)) && (not (inOneWord (pos (2 ^ 63))) && not (inOneWord (negsuc (2 ^ 63)))))))))
+unfolding wrapped
+turned-hold = tt

@@ -5,3 +5,4 @@ pub mod Words
 pub mod Order
 pub mod Columns
 pub mod Single
+pub mod Examples
