@@ -1,4 +1,4 @@
-// The cells of the last level as a pass opens them: one with a low coefficient, or so many without. An inner crate, for `wide_search`.
+// The cells of the last level as a pass opens them: one with a low coefficient, or so many without. An inner crate, for the two searches.
 ghost use mathlib.Core.Path.{_≡_};
 ghost use mathlib.Core.Bool.{false};
 ghost use mathlib.Core.List.{List};
