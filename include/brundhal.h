@@ -263,11 +263,11 @@ typedef struct {
     uint64_t low, high;
 } BrundhalNumber;
 
-/* A number of two words in one: fits is 1 with the number, or 0 with 0 for a number
- * that is not from -2^63 to 2^63 - 1. */
+/* A number of two words in one: fits is 1 and value the number, or both are 0 for a
+ * number that is not from -2^63 to 2^63 - 1. */
 typedef struct {
     uint32_t fits;
-    int64_t number;
+    int64_t value;
 } BrundhalSingle;
 
 /* From a number of one word, such as a bound or a word of a record, and back to one. */
@@ -275,8 +275,8 @@ BrundhalNumber brundhal_number_from_i64(int64_t x);
 BrundhalSingle brundhal_number_to_i64(BrundhalNumber x);
 
 /* x + y, x - y, x times y, two and four times x, all modulo 2^128: the whole number
- * itself wherever that is from -2^127 to 2^127 - 1; and of several operations in a
- * row only the last has to be. The product of two numbers of one word always is. */
+ * itself wherever that is from -2^127 to 2^127 - 1; and of several sums, differences
+ * and products in a row only the last has to be. The product of two numbers of one word always is. */
 BrundhalNumber brundhal_number_add(BrundhalNumber x, BrundhalNumber y);
 BrundhalNumber brundhal_number_sub(BrundhalNumber x, BrundhalNumber y);
 BrundhalNumber brundhal_number_mul(BrundhalNumber x, BrundhalNumber y);

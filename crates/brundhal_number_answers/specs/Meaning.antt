@@ -25,7 +25,7 @@ singleNumbers (Number z) = pos 1 ∷ z ∷ []
 singleNumbers TooLong = pos 0 ∷ pos 0 ∷ []
 
 abbrev pub singleFields : BrundhalSingle → List ℤ
-singleFields r = pos (r .fits) ∷ r .number ∷ []
+singleFields r = pos (r .fits) ∷ r .value ∷ []
 
 -- an order: −1 less, 0 equal, 1 greater
 abbrev pub orderNumber : Order → ℤ

@@ -20,7 +20,7 @@ pub struct BrundhalNumber {
 #[repr(C)]
 pub struct BrundhalSingle {
     pub fits: u32,
-    pub number: i64,
+    pub value: i64,
 }
 
 // A number that is handed in.
@@ -50,9 +50,9 @@ fn single(answer: Single) -> BrundhalSingle
     match answer {
         Single::Number(number) => BrundhalSingle {
             fits: 1,
-            number: number,
+            value: number,
         },
-        Single::TooLong => BrundhalSingle { fits: 0, number: 0 },
+        Single::TooLong => BrundhalSingle { fits: 0, value: 0 },
     }
 }
 

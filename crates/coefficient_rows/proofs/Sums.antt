@@ -18,7 +18,7 @@ use Rattle.definitions.specs.Coefficients.{row, dot}
 use Rattle.coefficient_table.specs.Sparse.{AreSparseRows, entryAt, entries}
 use Rattle.coefficient_table.specs.SparseSum.{sparseDot, sparse-dot}
 use Rattle.coefficient_table.specs.SparseRuns.{row-held, row-inside, column-small, value-small}
-use Rattle.coefficient_rows.specs.Limits.{edgeLimit, limitAt, WithinLimits, reach, row-reach}
+use Rattle.coefficient_rows.specs.Limits.{edgeVolumeLimit, limitAt, WithinLimits, reach, row-reach}
 
 -- bits that hold the sum of the entries from number k up to the row's end
 abbrev pub Summed : List ℕ → List ℤ → List ℤ → ℕ → ℕ → ℕ → Type 0
@@ -72,8 +72,8 @@ module _ {starts columns : List ℕ} {values vs : List ℤ} (t : AreSparseRows s
     value-held : Rep (ofZ w64 value) value 8
     value-held = leaf 8 value (value-small t (k - 1) entry-inside) tt
 
-    volume-held : Rep (ofZ w64 volume) volume edgeLimit
-    volume-held = leaf edgeLimit volume (le-trans (h .small column) (split-cases (λ m. m ≤ edgeLimit) (lit≤ tt) (lit≤ tt) 8 column)) tt
+    volume-held : Rep (ofZ w64 volume) volume edgeVolumeLimit
+    volume-held = leaf edgeVolumeLimit volume (le-trans (h .small column) (split-cases (λ m. m ≤ edgeVolumeLimit) (lit≤ tt) (lit≤ tt) 8 column)) tt
 
     -- the entry's own part of the row's reach
     abbrev part : ℕ

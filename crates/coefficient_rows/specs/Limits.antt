@@ -9,15 +9,15 @@ use Rattle.foundation.specs.Words.{signedLimit, split}
 use Rattle.coefficient_table.specs.Sparse.{Entry, sparseRow}
 
 -- a corner's volume is at most the first, an edge's at most the second
-abbrev pub cornerLimit : ℕ
-cornerLimit = 3 * 2 ^ 54
+abbrev pub cornerVolumeLimit : ℕ
+cornerVolumeLimit = 3 * 2 ^ 54
 
-abbrev pub edgeLimit : ℕ
-edgeLimit = 3 * 2 ^ 56
+abbrev pub edgeVolumeLimit : ℕ
+edgeVolumeLimit = 3 * 2 ^ 56
 
 -- the limit of volume i, counted from 0
 abbrev pub limitAt : ℕ → ℕ
-limitAt = split 8 cornerLimit edgeLimit
+limitAt = split 8 cornerVolumeLimit edgeVolumeLimit
 
 pub record WithinLimits (vs : List ℤ) : Type 0 where
   pub small : (i : ℕ) → natAbs (getD vs i (pos 0)) ≤ limitAt i

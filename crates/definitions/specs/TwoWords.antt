@@ -7,7 +7,7 @@ use lib.Signed.{leZ}
 use mir.Syntax.{Width, w64}
 use mir.Val.{toZ, bits}
 
--- what stands at each place of the high word: "low 64 bits and then high"
+-- what a one in the high word counts
 abbrev pub wordBase : ℕ
 wordBase = 2 ^ 64
 
@@ -31,7 +31,7 @@ lowWord z = remainder (wordBase * wordBase) z % wordBase
 abbrev pub highWord : ℤ → ℕ
 highWord z = remainder (wordBase * wordBase) z / wordBase
 
--- both as a record has them, each as a signed number
+-- both as a record has them, "low 64 bits and then high", each as a signed number
 abbrev pub twoWords : ℤ → List ℤ
 twoWords z = toZ w64 (lowWord z) ∷ toZ w64 (highWord z) ∷ []
 

@@ -64,7 +64,7 @@ eval-dot ρ (c ∷ cs) (e ∷ es) = ap (λ (t : ℤ). c *ℤ eval ρ e +ℤ t) (
 abbrev fromTable : ℕ → Expr
 fromTable n = dot expressions (row n) (volumes expressions nodeVar)
 
-abbrev atPlace : {A : Type 0} → (ℕ → ℕ → ℕ → A) → ℕ → A
+abbrev pub atPlace : {A : Type 0} → (ℕ → ℕ → ℕ → A) → ℕ → A
 atPlace f n = let corners = getD numbering n [] in f (place 0 corners) (place 1 corners) (place 2 corners)
 
 abbrev rowAgrees : ℕ → Bool

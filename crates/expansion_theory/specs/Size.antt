@@ -1,20 +1,23 @@
--- The size of the coefficients: with coordinates of at most L, those of level m are at most 384 L³ · 64^m.
+-- The size of the coefficients: with coordinates of at most L, those of level m are at most 384 L³ · 64^m, and by a closer count at most 192 L³ · 64^m.
 use mathlib.Core.Path.{_≡_, sym, _∙_, ap, subst}
+use mathlib.Core.Bool.{Bool, _&&_}
 use mathlib.Core.List.{List}
-use Prim.Native.Nat.{ℕ, zero, suc, _*_, _≤_, _^_, zero-le}
-use native.Mathlib.Nat.{le-trans, add-le-add, mul-le-mul-left, add-mul, mul-comm, mul-assoc, mul-one, one-mul, pow-zero, pow-suc}
+use Prim.Native.Nat.{ℕ, zero, suc, _*_, _≤_, _<_, _^_, zero-le}
+use native.Mathlib.Nat.{le-trans, add-le-add, mul-le-mul-left, mul-le-mul-right, add-mul, mul-comm, mul-assoc, mul-one, one-mul, pow-zero, pow-suc}
 use native.Mathlib.Omega.{arith}
+use lib.Dec.{T, leb, leb→le}
+use lib.Ieee.Fits.{and-l, and-r}
 use lib.ListN.{getD}
 use lib.IntN.{ℤ, pos, natAbs, _+ℤ_, _*ℤ_}
 use Rattle.foundation.specs.Magnitude.{magnitude-add, magnitude-mul}
-use Rattle.foundation.specs.Polynomial.{Arithmetic, Expr, var, con, add, mul, integers, expressions, solve}
-use Rattle.foundation.specs.Bound.{bound, bound-is}
-use Rattle.foundation.specs.Lists.{All, all-map, all-concat}
+use Rattle.foundation.specs.Polynomial.{Arithmetic, Expr, var, con, add, mul, integers, expressions, normal, solve}
+use Rattle.foundation.specs.Bound.{bound, bound-is, weight, ofDegree, terms-bound}
+use Rattle.foundation.specs.Lists.{All, all-map, all-concat, all-tabulate, allBelow, below}
 use Rattle.definitions.specs.Jacobian.{nodesOf}
-use Rattle.definitions.specs.Coefficients.{at}
+use Rattle.definitions.specs.Coefficients.{at, numbered}
 use Rattle.definitions.specs.Subdivision.{halve, Cell, child, children, whole, cells}
 use Rattle.expansion_theory.specs.Numbering.{numbered-all, at-default}
-use Rattle.expansion_theory.specs.Polar.{polar, nodeVar, coordinate, coefficients-polar}
+use Rattle.expansion_theory.specs.Polar.{polar, nodeVar, coordinate, atPlace, coefficients-polar}
 use Rattle.expansion_theory.specs.Combination.{Combines, halve-keeps, child-keeps}
 use Rattle.expansion_theory.specs.Cells.{eight}
 
@@ -79,3 +82,22 @@ module _ (xs : List ℤ) (L : ℕ) (h : (i : ℕ) → natAbs (getD xs i (pos 0))
 
   pub coefficient-size : (m : ℕ) → All (λ s. All (λ v. natAbs v ≤ 384 * L ^ 3 * 64 ^ m) (s .control)) (cells xs m)
   coefficient-size = cells-size xs most whole-size
+
+-- ---- finer: multiplied out, half of the terms cancel, and no coefficient has more than 192 left
+abbrev light : ℕ → Bool
+light n = let p = normal (atPlace (polar expressions nodeVar) n) in ofDegree 3 p && leb (weight p) 192
+
+all-light : T (allBelow 27 light)
+all-light = tt
+
+module _ (xs : List ℤ) (L : ℕ) (h : (i : ℕ) → natAbs (getD xs i (pos 0)) ≤ L) where
+  place-finer : (n : ℕ) → n < 27 → natAbs (atPlace (polar integers (nodesOf xs)) n) ≤ 192 * L ^ 3
+  place-finer n l = let p = normal (atPlace (polar expressions nodeVar) n) in let t = below light 27 all-light n l in
+      le-trans (terms-bound (coordinate xs) L h 3 (atPlace (polar expressions nodeVar) n) (and-l (ofDegree 3 p) (leb (weight p) 192) t)) (mul-le-mul-right (L ^ 3) (leb→le (weight p) 192 (and-r (ofDegree 3 p) (leb (weight p) 192) t)))
+
+  whole-finer : All (λ v. natAbs v ≤ 192 * L ^ 3) (whole xs .control)
+  unfolding whole numbered
+  whole-finer = subst (All (λ v. natAbs v ≤ 192 * L ^ 3)) (sym (coefficients-polar xs)) (all-tabulate (λ v. natAbs v ≤ 192 * L ^ 3) (atPlace (polar integers (nodesOf xs))) 0 27 (λ n _ l. place-finer n (omega (arith, l))))
+
+  pub coefficient-finer : (m : ℕ) → All (λ s. All (λ v. natAbs v ≤ 192 * L ^ 3 * 64 ^ m) (s .control)) (cells xs m)
+  coefficient-finer = cells-size xs (192 * L ^ 3) whole-finer

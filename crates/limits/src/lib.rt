@@ -23,7 +23,7 @@ pub const MAX_NAME: usize = 32;
 pub const RECORD_WORDS: usize = 8;
 
 // The words of a record whose value is in two words.
-pub const WIDE_RECORD_WORDS: usize = RECORD_WORDS + 1;
+pub const WIDE_RECORD_WORDS: usize = 9;
 
 // Lent space in which what any lot file holds has room: its coordinates, indices and bytes of names, and its groups.
 pub const AMPLE_NODES: usize = 12288;

@@ -54,9 +54,11 @@ fn least(g: &[u64; 54], n: usize, v: Wide) -> Wide
 fn with_cell(g: &[u64; 54], r: Extremes) -> Extremes
     ensures { λ s. ⌜ extremesOf s ≡ withControl (values (now (g .entry))) (extremesOf r) ⌝ }
 {
+    let low = r.low;
+    let high = r.high;
     Extremes {
-        low: least(g, 27, r.low),
-        high: least(g, 8, r.high),
+        low: least(g, 27, low),
+        high: least(g, 8, high),
     }
 }
 

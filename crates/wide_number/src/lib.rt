@@ -70,7 +70,7 @@ fn lifted(high: u64) -> u64
 }
 
 impl Wide {
-    // The sign fills the high word.
+    // A number of one word in two: the sign fills the high word.
     pub fn from_i64(x: i64) -> Wide
         ensures { λ r. ⌜ valueOf r ≡ x ⌝ }
     {
@@ -87,6 +87,7 @@ impl Wide {
         }
     }
 
+    // The number in one word, or that it is too long for one.
     pub fn to_i64(self) -> Single
         ensures { λ r. ⌜ r ≡ singleOf (valueOf self) ⌝ }
     {
@@ -105,6 +106,7 @@ impl Wide {
         Single::TooLong
     }
 
+    // The sum, modulo 2^128.
     pub fn add(self, y: Wide) -> Wide
         ensures { λ r. ⌜ valueOf r ≡ modulo (valueOf self +ℤ valueOf y) ⌝ }
     {
@@ -119,6 +121,7 @@ impl Wide {
         Wide { low, high }
     }
 
+    // The difference, modulo 2^128.
     pub fn sub(self, y: Wide) -> Wide
         ensures { λ r. ⌜ valueOf r ≡ modulo (valueOf self -ℤ valueOf y) ⌝ }
     {
@@ -133,6 +136,7 @@ impl Wide {
         Wide { low, high }
     }
 
+    // The product, modulo 2^128.
     pub fn mul(self, y: Wide) -> Wide
         ensures { λ r. ⌜ valueOf r ≡ modulo (valueOf self *ℤ valueOf y) ⌝ }
     {
@@ -155,6 +159,7 @@ impl Wide {
         u.mul(v)
     }
 
+    // Two times the number, modulo 2^128.
     pub fn twice(self) -> Wide
         ensures { λ r. ⌜ valueOf r ≡ modulo (pos 2 *ℤ valueOf self) ⌝ }
     {
@@ -164,6 +169,7 @@ impl Wide {
         }
     }
 
+    // Four times the number, modulo 2^128.
     pub fn four_times(self) -> Wide
         ensures { λ r. ⌜ valueOf r ≡ modulo (pos 4 *ℤ valueOf self) ⌝ }
     {
@@ -173,6 +179,7 @@ impl Wide {
         }
     }
 
+    // Whether the number is less than another, equal or greater.
     pub fn compare(self, y: Wide) -> Order
         ensures { λ r. ⌜ r ≡ orderOf (valueOf self) (valueOf y) ⌝ }
     {
@@ -184,7 +191,7 @@ impl Wide {
         if b < a {
             return Order::Greater;
         }
-        if self.low < y.low {
+        if y.low > self.low {
             return Order::Less;
         }
         if y.low < self.low {
@@ -193,6 +200,7 @@ impl Wide {
         Order::Equal
     }
 
+    // The same against 0.
     pub fn sign(self) -> Order
         ensures { λ r. ⌜ r ≡ orderOf (valueOf self) (pos 0) ⌝ }
     {
@@ -200,6 +208,7 @@ impl Wide {
         self.compare(zero)
     }
 
+    // Whether the number is less than another, or equal.
     pub fn at_most(self, y: Wide) -> bool
         ensures { λ r. ⌜ r ≡ leZ (valueOf self) (valueOf y) ⌝ }
     {
@@ -214,6 +223,7 @@ impl Wide {
         self.low <= y.low
     }
 
+    // The same against 0.
     pub fn at_most_zero(self) -> bool
         ensures { λ r. ⌜ r ≡ leZ (valueOf self) (pos 0) ⌝ }
     {

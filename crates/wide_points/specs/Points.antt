@@ -2,9 +2,9 @@
 -- and how large each number of a record gets.
 use mathlib.Core.Path.{_≡_, sym, _∙_, ap, subst}
 use mathlib.Core.List.{List}
-use Prim.Native.Nat.{ℕ, _*_, _^_, _≤_}
-use native.Mathlib.Nat.{le-trans, mul-le-mul-left, pow-le-pow-right, zero-lt-suc}
-use lib.Dec.{lit≤}
+use Prim.Native.Nat.{ℕ, _*_, _^_, _≤_, _<_}
+use native.Mathlib.Nat.{le-trans, mul-le-mul-left, pow-le-pow-right, zero-lt-suc, lt-of-le-of-lt}
+use lib.Dec.{lit<, lit≤}
 use lib.ListN.{length}
 use lib.IntN.{ℤ, natAbs}
 use Rattle.foundation.specs.Lists.{All, all-map}
@@ -13,7 +13,7 @@ use Rattle.definitions.specs.Coefficients.{coefficients}
 use Rattle.definitions.specs.Subdivision.{whole, cells}
 use Rattle.definitions.specs.Verdict.{Verdict, valid, invalid, undecided, verdict, opened}
 use Rattle.expansion_theory.specs.Expansion.{length-coefficients}
-use Rattle.expansion_theory.specs.Size.{whole-size, coefficient-size}
+use Rattle.expansion_theory.specs.Size.{whole-size, coefficient-finer}
 use Rattle.verdict_theory.specs.Opened.{most, opened-most}
 use Rattle.verdict_theory.specs.Named.{Names, OnGrid, named-on-grid}
 use Rattle.search_theory.specs.Meaning.{Small, deepest}
@@ -22,7 +22,7 @@ use Rattle.element_vectors.specs.Range.{InRange}
 use Rattle.wide_volumes.specs.Range.{wideRange}
 use Rattle.wide_rows.specs.Word.{largest}
 
--- the largest magnitude of a coefficient of the whole, and of one of the deepest level
+-- what the magnitude of a coefficient of the whole is at most, and one of the deepest level
 abbrev size : ℕ
 size = 384 * wideRange ^ 3
 
@@ -45,10 +45,13 @@ points-small xs g depth h l e = record {
 
 -- ---- how large the numbers get, for points within the limits at a level or depth within them
 module _ (xs : List ℤ) where
-  -- no coefficient that is held is above 384 · 2^108
-  pub held-most : InRange wideRange xs → (m : ℕ) → m ≤ deepest → All (λ s. All (λ v. natAbs v ≤ heldMost) (s .control)) (cells xs m)
-  held-most h m l = all-map (λ s. All (λ v. natAbs v ≤ size * 64 ^ m) (s .control)) (λ s. All (λ v. natAbs v ≤ heldMost) (s .control))
-      (λ s p. all-map (λ v. natAbs v ≤ size * 64 ^ m) (λ v. natAbs v ≤ heldMost) (λ v q. le-trans q (deep m l)) (s .control) p) (cells xs m) (coefficient-size xs wideRange (h .small) m)
+  -- every coefficient that is held is below 384 · 2^108
+  pub held-below : InRange wideRange xs → (m : ℕ) → m ≤ deepest → All (λ s. All (λ v. natAbs v < heldMost) (s .control)) (cells xs m)
+  held-below h m l = all-map (λ s. All (λ v. natAbs v ≤ half * 64 ^ m) (s .control)) (λ s. All (λ v. natAbs v < heldMost) (s .control))
+      (λ s p. all-map (λ v. natAbs v ≤ half * 64 ^ m) (λ v. natAbs v < heldMost) (λ v q. lt-of-le-of-lt (le-trans q (mul-le-mul-left half (pow-le-pow-right (zero-lt-suc 63) l))) (lit< tt)) (s .control) p) (cells xs m) (coefficient-finer xs wideRange (h .small) m)
+    where
+      half : ℕ
+      half = 192 * wideRange ^ 3
 
   -- at most 19,173,961 cells are opened
   pub opened-few : (D : ℕ) → D ≤ deepest → opened xs D ≤ 19173961

@@ -47,7 +47,7 @@ pub examples-hold : T (allHold examples)
 unfolding value
 examples-hold = tt
 
--- past the ends a number turns round, at any width; which numbers one word holds
+-- past the ends a number turns round, with two words and with one; which numbers one word holds
 pub turned-hold : T (same (wrapped w128 (pos (2 ^ 127))) (negsuc (2 ^ 127 - 1))
     && (same (wrapped w128 (negsuc (2 ^ 127))) (pos (2 ^ 127 - 1))
     && (same (wrapped w64 (pos (2 ^ 63))) (negsuc (2 ^ 63 - 1))

@@ -57,15 +57,15 @@ module _ (low high : ℕ) (w : AreWords low high) where
       less : (m a b c : ℕ) → m ≡ c + c → b < m → a + c ≡ b → negsuc (m - suc b) ≡ subℕ a c
       less m a b c e h f = sub-cases a c (λ z. negsuc (m - suc b) ≡ z) (λ n p. ap negsuc (omega (arith, e, f, p))) (λ n p. absurd (omega (arith, e, f, h, p)))
 
-      raise : (h k l : ℕ) → k * wordBase + l + signedLimit * wordBase ≡ (k + signedLimit) * wordBase + l
-      raise h k l = sum (k * wordBase) l (signedLimit * wordBase) ∙ ap (λ (n : ℕ). n + l) (sym (add-mul k signedLimit wordBase))
+      raise : (k l : ℕ) → k * wordBase + l + signedLimit * wordBase ≡ (k + signedLimit) * wordBase + l
+      raise k l = sum (k * wordBase) l (signedLimit * wordBase) ∙ ap (λ (n : ℕ). n + l) (sym (add-mul k signedLimit wordBase))
         where
           sum : (a b c : ℕ) → a + b + c ≡ a + c + b
           sum a b c = omega arith
 
       go : Sign high → value low high ≡ subℕ (together low (lifted high)) (2 ^ 127)
-      go (plus h) = value-above low high h ∙ more (together low (lifted high)) (together low high) (2 ^ 127) (ap (λ (n : ℕ). n * wordBase + low) (lifted-plus high h) ∙ sym (raise 0 high low))
-      go (minus h) = value-below low high w h ∙ less (2 ^ 128) (together low (lifted high)) (together low high) (2 ^ 127) refl (together-below low high w) (raise 0 (lifted high) low ∙ ap (λ (n : ℕ). n * wordBase + low) (lifted-minus high h (w .high-word)))
+      go (plus h) = value-above low high h ∙ more (together low (lifted high)) (together low high) (2 ^ 127) (ap (λ (n : ℕ). n * wordBase + low) (lifted-plus high h) ∙ sym (raise high low))
+      go (minus h) = value-below low high w h ∙ less (2 ^ 128) (together low (lifted high)) (together low high) (2 ^ 127) refl (together-below low high w) (raise (lifted high) low ∙ ap (λ (n : ℕ). n * wordBase + low) (lifted-minus high h (w .high-word)))
 
 module _ (low high low′ high′ : ℕ) (v : AreWords low high) (w : AreWords low′ high′) where
   pub less-is : ltZ (value low high) (value low′ high′) ≡ ltb (together low (lifted high)) (together low′ (lifted high′))

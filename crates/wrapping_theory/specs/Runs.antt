@@ -42,6 +42,6 @@ module _ (w : Width) where
     pub run-exact : SFits w (eval ρ (formula o)) → r ≡ eval ρ (formula o)
     run-exact g = one-alone w f g (chained (equal e) (ran-congruent ρ o))
 
-    -- where the bound that is computed for the whole is
+    -- the same where the bound that is computed for the whole formula is in range
     pub run-bounded : (β : ℕ → ℕ) → ((i : ℕ) → natAbs (ρ i) ≤ β i) → T (ltb (bound β (formula o)) (2 ^ hbits w)) → r ≡ eval ρ (formula o)
     run-bounded β h t = run-exact (size-fits (bound β (formula o)) (eval ρ (formula o)) (bound-is ρ β h (formula o)) t)

@@ -199,7 +199,7 @@ mod raw {
     #[repr(C)]
     pub struct Single {
         pub fits: u32,
-        pub number: i64,
+        pub value: i64,
     }
 
     extern "C" {

@@ -7,7 +7,7 @@ use std::cmp::Ordering;
 /// "low 64 bits and then high".
 ///
 /// Sums, differences and products are modulo 2^128.  They are the whole numbers
-/// themselves wherever those are in that range; and of several operations in a row only
+/// themselves wherever those are in that range; and of several of them in a row only
 /// the last has to be.
 #[repr(C)]
 #[derive(Clone, Copy, Debug, Default, PartialEq, Eq, Hash)]
@@ -30,10 +30,10 @@ fn ordering(number: i32) -> Ordering {
 impl Number {
     /// The number in one word, if that holds it.
     pub fn to_i64(self) -> Option<i64> {
-        let raw::Single { fits, number } = unsafe { raw::brundhal_number_to_i64(self) };
+        let raw::Single { fits, value } = unsafe { raw::brundhal_number_to_i64(self) };
         match fits {
             0 => None,
-            1 => Some(number),
+            1 => Some(value),
             other => unreachable!("the library says 0 or 1, not {other}"),
         }
     }

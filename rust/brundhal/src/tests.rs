@@ -18,7 +18,7 @@ fn layout() {
     assert_eq!((size_of::<Number>(), align_of::<Number>()), (16, 8));
     assert_eq!((offset_of!(Number, low), offset_of!(Number, high)), (0, 8));
     assert_eq!((size_of::<raw::Single>(), align_of::<raw::Single>()), (16, 8));
-    assert_eq!((offset_of!(raw::Single, fits), offset_of!(raw::Single, number)), (0, 8));
+    assert_eq!((offset_of!(raw::Single, fits), offset_of!(raw::Single, value)), (0, 8));
 }
 
 #[test]
@@ -361,8 +361,8 @@ fn numbers_too_long_for_one_word() {
         let number = Number { low: x as u64, high: (x >> 64) as u64 };
         assert_eq!((i128::from(number), number.to_i64()), (x, None));
         // Numbers in, numbers out, as in `to_i64`.
-        let raw::Single { fits, number } = unsafe { raw::brundhal_number_to_i64(number) };
-        assert_eq!((fits, number), (0, 0));
+        let raw::Single { fits, value } = unsafe { raw::brundhal_number_to_i64(number) };
+        assert_eq!((fits, value), (0, 0));
     }
 }
 
