@@ -9,6 +9,7 @@ use std::fmt;
 
 mod lent;
 mod lots;
+mod wide;
 
 pub use lots::ample_space;
 
@@ -301,7 +302,7 @@ fn compared(
 /// rules hold of the first.  Those over depths are tested at all depths on an
 /// accepted mesh, an element, and bounds that are not refused; that of the stamp at all
 /// depths on an accepted mesh; those of reading and writing on every lot that is read or
-/// written.
+/// written; those of records and bounds of two words on each.
 pub fn ask(first: Program, second: Program, question: &Question) -> Result<Vec<i64>, Difference> {
     let fault = |what: Option<String>| match what {
         None => Ok(()),
@@ -380,6 +381,28 @@ pub fn ask(first: Program, second: Program, question: &Question) -> Result<Vec<i
         }
         Question::Numbers { x, y } => {
             let ask = |program: Program| reckoned_words(program.reckons.reckoned(*x, *y));
+            compared(question, ask, first, second)
+        }
+        Question::WideRecords { depth, points } => {
+            let seen = first.searches.records(points, LARGEST_DEPTH.max(*depth));
+            let asked = wide::records_words(&seen[..=*depth as usize]);
+            let others = wide::records_words(&second.searches.records(points, *depth));
+            fault(difference(&asked, &others))?;
+            fault(wide::records_fault(first, points, &seen))?;
+            Ok(wide::records_words(&seen).words)
+        }
+        Question::WideBounds { depth, points } => {
+            let seen = wide::bounds_to(first, points, LARGEST_DEPTH.max(*depth));
+            let asked = wide::bounds_words(seen[*depth as usize]);
+            let others = wide::bounds_words(second.searches.bounds(points, *depth));
+            fault(difference(&asked, &others))?;
+            fault(wide::bounds_fault(first, points, &seen))?;
+            Ok(asked.words)
+        }
+        Question::Half { direction, side, numbers } => {
+            let ask = |program: Program| {
+                wide::half_words(program.searches.half(*direction, *side, numbers))
+            };
             compared(question, ask, first, second)
         }
     }

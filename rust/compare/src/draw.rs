@@ -1,4 +1,4 @@
-//! Random elements, meshes, addresses and numbers, each from a seed.
+//! Random elements, meshes, addresses, numbers and nets, each from a seed.
 
 use crate::program::IN_ORDER;
 use crate::question::Question;
@@ -36,25 +36,29 @@ pub const KINDS: [Kind; 8] = [
     Kind::Extreme,
 ];
 
-const RANGE: i64 = 4096;
+/// A usable coordinate lies in -RANGE..RANGE.
+pub const RANGE: i64 = 4096;
 
 pub fn narrow(points: &Points) -> [i32; 24] {
-    points.map(|x| x.clamp(-RANGE, RANGE) as i32)
+    clamped(*points, RANGE).map(|x| x as i32)
 }
 
 /// An element of this kind; every coordinate is usable.
 pub fn element(shaker: &mut Shaker, kind: Kind) -> [i32; 24] {
-    let points = match kind {
-        Kind::Uniform => [0; 24].map(|_: i64| shaker.between(-RANGE, RANGE)),
-        Kind::Shaken => shaken(shaker),
-        Kind::Thin => thin(shaker),
+    narrow(&drawn(shaker, kind, RANGE))
+}
+
+fn drawn(shaker: &mut Shaker, kind: Kind, range: i64) -> Points {
+    match kind {
+        Kind::Uniform => [0; 24].map(|_: i64| shaker.between(-range, range)),
+        Kind::Shaken => shaken(shaker, range),
+        Kind::Thin => thin(shaker, range),
         Kind::Small => small(shaker),
-        Kind::Hollow => hollow(shaker),
-        Kind::Undecided => undecided(shaker),
-        Kind::Mirrored => mirrored(shaker),
-        Kind::Extreme => extreme(shaker),
-    };
-    narrow(&points)
+        Kind::Hollow => hollow(shaker, range),
+        Kind::Undecided => undecided(shaker, range),
+        Kind::Mirrored => mirrored(shaker, range),
+        Kind::Extreme => extreme(shaker, range),
+    }
 }
 
 fn shake(shaker: &mut Shaker, points: &mut Points, by: [i64; 3]) {
@@ -72,24 +76,24 @@ fn often_turned(shaker: &mut Shaker, points: Points) -> Points {
     }
 }
 
-fn clamped(points: Points) -> Points {
-    points.map(|x| x.clamp(-RANGE, RANGE))
+fn clamped(points: Points, range: i64) -> Points {
+    points.map(|x| x.clamp(-range, range))
 }
 
-fn shaken(shaker: &mut Shaker) -> Points {
-    let most = [4, 40, 400, 2 * RANGE][shaker.between(0, 3) as usize];
+fn shaken(shaker: &mut Shaker, range: i64) -> Points {
+    let most = [4, 40, 400, 2 * range][shaker.between(0, 3) as usize];
     let side = shaker.between(1, most);
-    let low = shaker.between(-RANGE, RANGE - side);
+    let low = shaker.between(-range, range - side);
     let mut points = cube(low, low + side);
     let by = shaker.between(0, side * 6 / 10);
     shake(shaker, &mut points, [by; 3]);
-    often_turned(shaker, clamped(points))
+    often_turned(shaker, clamped(points, range))
 }
 
 /// A box with one or two of its sides 0 to 4 units long.
-fn thin(shaker: &mut Shaker) -> Points {
+fn thin(shaker: &mut Shaker, range: i64) -> Points {
     let thin_axes = [1, 1, 2][shaker.between(0, 2) as usize];
-    let mut sides = [0; 3].map(|_: i64| shaker.between(5, 2 * RANGE));
+    let mut sides = [0; 3].map(|_: i64| shaker.between(5, 2 * range));
     for side in &mut sides[..thin_axes] {
         *side = shaker.between(0, 4);
     }
@@ -101,7 +105,7 @@ fn thin(shaker: &mut Shaker) -> Points {
     let share = shaker.between(0, 60);
     let by = sides.map(|side| (side * share / 100).max(i64::from(share > 20)));
     shake(shaker, &mut points, by);
-    often_turned(shaker, clamped(points))
+    often_turned(shaker, clamped(points, range))
 }
 
 fn small(shaker: &mut Shaker) -> Points {
@@ -116,22 +120,22 @@ fn small(shaker: &mut Shaker) -> Points {
     points
 }
 
-fn strained(shaker: &mut Shaker) -> Points {
+fn strained(shaker: &mut Shaker, range: i64) -> Points {
     let points = match shaker.between(0, 3) {
-        0 => shaken(shaker),
+        0 => shaken(shaker, range),
         1 => shaker.twisted(),
-        2 => thin(shaker),
+        2 => thin(shaker, range),
         _ => shaker.strained(),
     };
-    let points = clamped(points);
+    let points = clamped(points, range);
     often_turned(shaker, points)
 }
 
 /// Drawn until the second program finds it undecided at depth 0, which means
 /// eight positive corners and a coefficient not above 0.
-fn hollow(shaker: &mut Shaker) -> Points {
+fn hollow(shaker: &mut Shaker, range: i64) -> Points {
     for _ in 0..2000 {
-        let points = strained(shaker);
+        let points = strained(shaker, range);
         if second::record(&points, 0)[0] == 2 {
             return points;
         }
@@ -165,7 +169,7 @@ fn mapped(shaker: &mut Shaker, points: &Points) -> Points {
 /// A ring turned by about a half against its square, as in case F, so that J
 /// has a double zero, or nearly, off the grid; sheared, stretched, turned and
 /// made larger.
-fn folded(shaker: &mut Shaker) -> Points {
+fn folded(shaker: &mut Shaker, range: i64) -> Points {
     let half = shaker.between(1, 6);
     let reach = shaker.between(1, 12);
     let [along, across] = [0; 2].map(|_: i64| shaker.between(-1, 1) * shaker.between(0, 1));
@@ -173,18 +177,18 @@ fn folded(shaker: &mut Shaker) -> Points {
     let mut points = twisted(half, height, reach + along, reach + across);
     points = mapped(shaker, &points);
     let most = points.iter().map(|x| x.abs()).max().unwrap_or(1).max(1);
-    let times = shaker.between(1, (RANGE / most).max(1));
+    let times = shaker.between(1, (range / most).max(1));
     points = points.map(|x| x * times);
     let by = if shaker.between(0, 1) == 0 { 0 } else { times / 40 };
     shake(shaker, &mut points, [by; 3]);
-    points = clamped(points);
+    points = clamped(points, range);
     often_turned(shaker, points)
 }
 
 /// Drawn until the second program finds it undecided at depth 3.
-fn undecided(shaker: &mut Shaker) -> Points {
+fn undecided(shaker: &mut Shaker, range: i64) -> Points {
     for _ in 0..2000 {
-        let points = folded(shaker);
+        let points = folded(shaker, range);
         let undecided_at = |depth| {
             let (low, high) = second::bounds_of(&points, depth);
             low <= 0 && high > 0
@@ -196,12 +200,12 @@ fn undecided(shaker: &mut Shaker) -> Points {
     twisted(1, 1, 2, 2)
 }
 
-fn mirrored(shaker: &mut Shaker) -> Points {
+fn mirrored(shaker: &mut Shaker, range: i64) -> Points {
     let mut points = match shaker.between(0, 3) {
-        0 => shaken(shaker),
-        1 => thin(shaker),
-        2 => folded(shaker),
-        _ => strained(shaker),
+        0 => shaken(shaker, range),
+        1 => thin(shaker, range),
+        2 => folded(shaker, range),
+        _ => strained(shaker, range),
     };
     let how = shaker.between(0, 4);
     if how != 0 {
@@ -215,20 +219,140 @@ fn mirrored(shaker: &mut Shaker) -> Points {
     points
 }
 
-fn extreme(shaker: &mut Shaker) -> Points {
+fn extreme(shaker: &mut Shaker, range: i64) -> Points {
     let mut points = match shaker.between(0, 3) {
         // every coordinate at an end of the range
-        0 => [0; 24].map(|_: i64| [-RANGE, RANGE][shaker.between(0, 1) as usize]),
-        1 => shaker.wide(),
+        0 => [0; 24].map(|_: i64| [-range, range][shaker.between(0, 1) as usize]),
+        1 => shaker.wide(range),
         // case F and its like, as large as they can be
-        2 => twisted(RANGE / 2, RANGE, RANGE, RANGE),
-        _ => cube(-RANGE, RANGE),
+        2 => twisted(range / 2, range, range, range),
+        _ => cube(-range, range),
     };
     if shaker.between(0, 1) == 0 {
         let by = [1, 100, 2000][shaker.between(0, 2) as usize];
         shake(shaker, &mut points, [by; 3]);
     }
-    often_turned(shaker, clamped(points))
+    often_turned(shaker, clamped(points, range))
+}
+
+// ----------------------------------------------------- the larger limits --
+
+/// 02, No. 8: "Raise coordinates to -1,048,576..1,048,576".
+pub const WIDE_RANGE: i64 = second::walk::RANGE;
+
+/// Points within the larger range.
+pub fn in_wide_range(points: Points) -> [i32; 24] {
+    clamped(points, WIDE_RANGE).map(|x| x as i32)
+}
+
+/// How many times larger points can be made within the larger range; 1 at least.
+fn room(points: &Points) -> i64 {
+    let most = points.iter().map(|x| x.abs()).max().unwrap_or(0);
+    (WIDE_RANGE / most.max(1)).max(1)
+}
+
+/// The points times 1, 2, 4 and so on, while they stay within the larger range.
+pub fn powers(points: Points) -> Vec<[i32; 24]> {
+    let times = |power: u32| in_wide_range(points.map(|x| x << power));
+    (0..=room(&points).ilog2()).map(times).collect()
+}
+
+/// The last of these.
+pub fn largest(points: Points) -> [i32; 24] {
+    in_wide_range(points.map(|x| x << room(&points).ilog2()))
+}
+
+/// Made larger by a power of two or by any number, or left as they are.
+fn grown(shaker: &mut Shaker, points: Points) -> [i32; 24] {
+    let room = room(&points);
+    let times = match shaker.between(0, 3) {
+        0 => 1,
+        1 => shaker.between(1, room),
+        _ => 1 << shaker.between(0, room.ilog2().into()),
+    };
+    in_wide_range(points.map(|x| x * times))
+}
+
+/// An element of this kind within the larger range.
+pub fn wide_element(shaker: &mut Shaker, kind: Kind) -> [i32; 24] {
+    let range = one_of(shaker, &[RANGE, WIDE_RANGE, WIDE_RANGE]);
+    let points = drawn(shaker, kind, range);
+    grown(shaker, points)
+}
+
+/// One of the second program's kinds, made larger.
+pub fn wide_specimen(shaker: &mut Shaker) -> [i32; 24] {
+    let points = shaker.element();
+    grown(shaker, points)
+}
+
+/// A ring turned by a half against its square: J = 4 (half - (half + reach) zeta)^2,
+/// which case F has with 1 and 2.  `aside` turns it a little further: 4 (aside zeta)^2
+/// is added.
+pub fn half_turned(half: i64, reach: i64, aside: i64) -> Points {
+    twisted(half, 1, reach + aside, reach - aside)
+}
+
+/// With its zero at k / 2^level: for an odd k a zero at grid points of this level, and
+/// at none of a lesser one.
+pub fn zero_at(level: u32, k: i64) -> Points {
+    half_turned(k, (1 << level) - k, 0)
+}
+
+/// Half turned, exactly or nearly, so that it is decided at any level or at none;
+/// sheared, made larger, at times shaken a little, and turned.
+pub fn barely(shaker: &mut Shaker) -> [i32; 24] {
+    let points = match shaker.between(0, 2) {
+        0 => {
+            let level = shaker.between(1, 8);
+            zero_at(level as u32, 2 * shaker.between(1, 1 << (level - 1)) - 1)
+        }
+        _ => {
+            let times = shaker.between(1, 100);
+            let [half, reach] = [0; 2].map(|_: i64| times * shaker.between(1, 12));
+            half_turned(half, reach, shaker.between(0, 3))
+        }
+    };
+    let points = mapped(shaker, &points);
+    let mut points = grown(shaker, points).map(i64::from);
+    let by = one_of(shaker, &[0, 0, 1, 10, 1000]);
+    shake(shaker, &mut points, [by; 3]);
+    in_wide_range(often_turned(shaker, points))
+}
+
+/// Of a cube and an element that has good corners and is invalid, both in the old
+/// range: 256 parts of the two together, so many of the second that the verdict at depth
+/// 6 is just not, or is just, invalid.  J is nearly 0 in one place, and deep down few
+/// cubes have a low coefficient.
+pub fn turning(shaker: &mut Shaker) -> [i32; 24] {
+    let good = cube(-shaker.between(500, 1500), shaker.between(500, 1500));
+    let verdict = |points: &Points, depth: u32| {
+        let records = second::walk::records(points, depth).expect("within the limits");
+        records[depth as usize]
+    };
+    let mut bad = twisted(1, 1, 1, 1);
+    for _ in 0..200 {
+        let points = clamped(shaker.strained(), RANGE);
+        let said = verdict(&points, 3);
+        if said.kind == 1 && said.level > 0 {
+            bad = points;
+            break;
+        }
+    }
+    let mixed = |parts: i64| -> Points {
+        std::array::from_fn(|at| (256 - parts) * good[at] + parts * bad[at])
+    };
+    let (mut below, mut above) = (0, 256);
+    while above - below > 1 {
+        let middle = (below + above) / 2;
+        if verdict(&mixed(middle), 6).kind == 1 {
+            above = middle;
+        } else {
+            below = middle;
+        }
+    }
+    let points = mixed(one_of(shaker, &[below, above]));
+    in_wide_range(often_turned(shaker, points))
 }
 
 // ------------------------------------------------------------------ meshes --
@@ -399,4 +523,23 @@ pub fn moves(shaker: &mut Shaker) -> [Question; 3] {
 pub fn number(shaker: &mut Shaker) -> i128 {
     let bits = u128::from(shaker.draw()) << 64 | u128::from(shaker.draw());
     bits as i128 >> shaker.between(0, 127)
+}
+
+/// 27 numbers that can be cut: of any length in bits, all of about one length, at the
+/// ends, or some of each.
+pub fn net(shaker: &mut Shaker) -> [i128; 27] {
+    let ends = [0, 1, -1, 1 << 63, 1 << 64, -(1 << 64), inner::LARGEST, -inner::LARGEST];
+    let length = shaker.between(2, 127);
+    let how = shaker.between(0, 3);
+    [0; 27].map(|_: i128| {
+        let x = match if how == 3 { shaker.between(0, 2) } else { how } {
+            0 => number(shaker) >> 2,
+            1 => {
+                let bits = u128::from(shaker.draw()) << 64 | u128::from(shaker.draw());
+                bits as i128 >> length
+            }
+            _ => one_of(shaker, &ends),
+        };
+        x.clamp(-inner::LARGEST, inner::LARGEST)
+    })
 }

@@ -62,6 +62,7 @@ pub struct Program<'a> {
     pub names: &'a dyn Names,
     pub prints: &'a dyn Prints,
     pub reckons: &'a dyn Reckons,
+    pub searches: &'a dyn Searches,
 }
 
 /// The services of 01.
@@ -165,6 +166,23 @@ pub trait Reckons: Sync {
     }
 }
 
+/// A record of nine words.  02: "Word 6 becomes two words, low 64 bits and then high, as
+/// two's complement; the opened count moves to word 8".
+pub type WideRecord = [i64; inner::RECORD_WORDS];
+
+/// Low and high, each its low word and then its high one.
+pub type WideBounds = [u64; 4];
+
+/// The inner services over numbers of two words.  Coordinates and depths are within the
+/// limits of 02, No. 8, and numbers to be cut within `inner::LARGEST`.
+pub trait Searches: Sync {
+    /// The record of eight points at every depth from 0 to `depth`.
+    fn records(&self, points: &[i32; 24], depth: u32) -> Vec<WideRecord>;
+    fn bounds(&self, points: &[i32; 24], depth: u32) -> WideBounds;
+    /// The half on side 0, or else 1, four times larger.
+    fn half(&self, direction: u32, side: u32, numbers: &[i128; 27]) -> [i128; 27];
+}
+
 /// The indices of an element that has eight nodes of its own.
 pub const IN_ORDER: [u32; 8] = [0, 1, 2, 3, 4, 5, 6, 7];
 
@@ -190,6 +208,7 @@ pub const PRODUCT: Program = Program {
     names: &Product,
     prints: &Product,
     reckons: &Product,
+    searches: &Product,
 };
 
 fn moved(answer: brundhal::Moved) -> Move {
@@ -329,6 +348,20 @@ impl Reckons for Product {
     }
 }
 
+impl Searches for Product {
+    fn records(&self, points: &[i32; 24], depth: u32) -> Vec<WideRecord> {
+        (0..=depth).map(|depth| inner::record(points, depth)).collect()
+    }
+
+    fn bounds(&self, points: &[i32; 24], depth: u32) -> WideBounds {
+        inner::bounds(points, depth)
+    }
+
+    fn half(&self, direction: u32, side: u32, numbers: &[i128; 27]) -> [i128; 27] {
+        inner::half(direction, side, numbers)
+    }
+}
+
 // ------------------------------------------------------ the second program --
 
 /// The second program, at 01's limits.
@@ -341,6 +374,7 @@ pub const SECOND: Program = Program {
     names: &Second,
     prints: &Second,
     reckons: &Second,
+    searches: &Second,
 };
 
 fn said((to, made): (second::Address, bool)) -> Move {
@@ -426,10 +460,10 @@ impl Inspects for Second {
     fn over_depths(&self, points: &[i32; 24], depth: u32) -> Vec<AtDepth> {
         let levels = second::over_depths(&points.map(i64::from), depth)
             .expect("points in range are within reach");
-        let at_depth = |(record, (low, high))| AtDepth {
-            answer: answer_of_one(&record),
-            record,
-            bounds: (0, held(low), held(high)),
+        let at_depth = |(said, (low, high)): second::RecordAndBounds| {
+            let record = said.eight_words();
+            let bounds = (0, held(low), held(high));
+            AtDepth { answer: answer_of_one(&record), record, bounds }
         };
         levels.into_iter().map(at_depth).collect()
     }
@@ -539,5 +573,39 @@ impl Reckons for Second {
 
     fn at_most(&self, x: i128, y: i128) -> bool {
         x <= y
+    }
+}
+
+/// The largest depth at which every cube of every level is looked at; at greater ones
+/// those are from which the answer can come.
+const ALL_CUBES: u32 = 4;
+
+const IN_LIMITS: &str = "points and depth are within the larger limits";
+
+impl Searches for Second {
+    fn records(&self, points: &[i32; 24], depth: u32) -> Vec<WideRecord> {
+        let points = points.map(i64::from);
+        let said: Vec<second::Said> = if depth <= ALL_CUBES {
+            let all = second::over_depths(&points, depth).expect(IN_LIMITS);
+            all.into_iter().map(|(said, _)| said).collect()
+        } else {
+            second::walk::records(&points, depth).expect(IN_LIMITS)
+        };
+        said.iter().map(second::Said::nine_words).collect()
+    }
+
+    fn bounds(&self, points: &[i32; 24], depth: u32) -> WideBounds {
+        let points = points.map(i64::from);
+        let (low, high) = if depth <= ALL_CUBES {
+            second::bounds_of(&points, depth)
+        } else {
+            second::walk::bounds_of(&points, depth).expect(IN_LIMITS)
+        };
+        let ([a, b], [c, d]) = (second::two_words(low), second::two_words(high));
+        [a, b, c, d]
+    }
+
+    fn half(&self, direction: u32, side: u32, numbers: &[i128; 27]) -> [i128; 27] {
+        second::half(direction as usize, side != 0, numbers)
     }
 }

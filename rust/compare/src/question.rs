@@ -69,6 +69,24 @@ pub enum Question {
         x: i128,
         y: i128,
     },
+    /// Eight points within the larger limits, at every depth from 0 to `depth`: their
+    /// records, with values of two words.  The first program answers to depth 3 at
+    /// least.
+    WideRecords {
+        depth: u32,
+        points: [i32; 24],
+    },
+    /// Both bounds of such points at one depth.
+    WideBounds {
+        depth: u32,
+        points: [i32; 24],
+    },
+    /// The half of 27 numbers on a side in a direction.
+    Half {
+        direction: u32,
+        side: u32,
+        numbers: Box<[i128; 27]>,
+    },
 }
 
 fn put<T: fmt::Display>(f: &mut fmt::Formatter<'_>, numbers: &[T]) -> fmt::Result {
@@ -143,6 +161,18 @@ impl fmt::Display for Question {
                 put_run(f, file)
             }
             Question::Numbers { x, y } => write!(f, "numbers {x} {y}"),
+            Question::WideRecords { depth, points } => {
+                write!(f, "wide_records {depth}")?;
+                put(f, points)
+            }
+            Question::WideBounds { depth, points } => {
+                write!(f, "wide_bounds {depth}")?;
+                put(f, points)
+            }
+            Question::Half { direction, side, numbers } => {
+                write!(f, "half {direction} {side}")?;
+                put(f, numbers.as_slice())
+            }
         }
     }
 }
@@ -205,6 +235,13 @@ impl Numbers<'_> {
             },
             "slip" => Question::Slip { file: self.run()? },
             "numbers" => Question::Numbers { x: self.one()?, y: self.one()? },
+            "wide_records" => Question::WideRecords { depth: self.one()?, points: self.array()? },
+            "wide_bounds" => Question::WideBounds { depth: self.one()?, points: self.array()? },
+            "half" => Question::Half {
+                direction: self.one()?,
+                side: self.one()?,
+                numbers: Box::new(self.array()?),
+            },
             _ => return None,
         };
         self.0.next().is_none().then_some(question)

@@ -6,6 +6,7 @@ use crate::draw::{self, Kind, KINDS};
 use crate::lots::{numbered, Service, NAMING, PRINTING, READING, WRITING};
 use crate::program::{Program, IN_ORDER, RECKONED};
 use crate::question::Question;
+use crate::wide::{BOUNDS, HALVES, RECORDS};
 use second::specimens::Shaker;
 use std::collections::BTreeMap;
 use std::fmt::Write;
@@ -28,6 +29,10 @@ pub struct Plan {
     pub slips: usize,
     /// Random pairs of numbers of two words.
     pub numbers: usize,
+    /// Of each kind of random elements within the larger limits, for records and for
+    /// bounds; and random nets to halve.
+    pub wide: usize,
+    pub halves: usize,
 }
 
 impl Plan {
@@ -43,6 +48,8 @@ impl Plan {
             names: elements,
             slips: elements / 50,
             numbers: elements * 100,
+            wide: elements / 400,
+            halves: elements,
         }
     }
 }
@@ -145,7 +152,8 @@ fn worked_cases(pair: Pair) -> Result<String, Difference> {
     Ok("A to I and the cube from -4,096 to 4,096, at depths 0 to 3".to_string())
 }
 
-fn verdict(record: &[i64]) -> String {
+/// A record by its first two words.
+pub fn verdict(record: &[i64]) -> String {
     match record[0] {
         0 => format!("valid at level {}", record[1]),
         1 => format!("invalid at level {}", record[1]),
@@ -468,6 +476,12 @@ pub fn run_lots(pair: Pair, plan: Plan, say: &dyn Fn(String)) -> Result<(), Diff
     services.iter().try_for_each(|(part, service)| run_service(pair, plan, service, *part, say))
 }
 
+/// Records, bounds and halves in numbers of two words.
+pub fn run_wide(pair: Pair, plan: Plan, say: &dyn Fn(String)) -> Result<(), Difference> {
+    let services = [(30, RECORDS), (50, BOUNDS), (60, HALVES)];
+    services.iter().try_for_each(|(part, service)| run_service(pair, plan, service, *part, say))
+}
+
 /// One part of a run.
 type Part<'a> = (&'a str, &'a dyn Fn() -> Result<String, Difference>);
 
@@ -490,5 +504,6 @@ pub fn run(pair: Pair, plan: Plan, say: &dyn Fn(String)) -> Result<(), Differenc
         let said = part()?;
         say(format!("{name}: {said} ({:.1} s)", start.elapsed().as_secs_f64()));
     }
+    run_wide(pair, plan, say)?;
     run_lots(pair, plan, say)
 }

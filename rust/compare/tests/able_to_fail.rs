@@ -36,6 +36,8 @@ mod printing;
 mod reading;
 #[path = "able_to_fail/reckoning.rs"]
 mod reckoning;
+#[path = "able_to_fail/searching.rs"]
+mod searching;
 #[path = "able_to_fail/writing.rs"]
 mod writing;
 
@@ -350,6 +352,8 @@ fn small_plan() -> Plan {
         names: 2000,
         slips: 100,
         numbers: 20_000,
+        wide: 30,
+        halves: 2000,
     }
 }
 
@@ -606,6 +610,9 @@ fn questions_read_back() {
         Question::Slip { file: vec![0] },
         Question::Slip { file: b"LB\x01\0~EN\0\0".to_vec() },
         Question::Numbers { x: i128::MIN, y: i128::MAX },
+        Question::WideRecords { depth: 8, points: [-1_048_576; 24] },
+        Question::WideBounds { depth: 4, points: [1_048_576; 24] },
+        Question::Half { direction: 2, side: 9, numbers: Box::new([-(1 << 124); 27]) },
     ];
     for question in questions {
         let read: Question = question.to_string().parse().expect("a question");
@@ -622,6 +629,7 @@ fn questions_read_back() {
         "name 0 0 0 0 0 0 0",
         "slip 1 -1",
         "numbers 1 170141183460469231731687303715884105728",
+        "half 0 0 1 2 3",
         "sound",
     ];
     for line in lines {

@@ -6,7 +6,9 @@
 //! coefficients of a cube are fitted to 27 samples, and every cube of every
 //! level up to the depth is looked at.  Nothing is searched or left out, so
 //! it is slow and short.  All arithmetic is on `i128`.  The lot files of document
-//! 02 are read and written in `lot`, and the slip is printed in `slip`.
+//! 02 are read and written in `lot`, and the slip is printed in `slip`.  `walk` has the
+//! records and bounds within the larger limits of 02, No. 8, where all cubes of a level
+//! are too many.
 //!
 //! Reach.  The numbers below are exact for coordinates up to `REACH_RANGE` and
 //! depths up to `REACH_DEPTH`, far past 01's own limits.  Past the reach every
@@ -22,6 +24,7 @@ use std::sync::LazyLock;
 pub mod lot;
 pub mod slip;
 pub mod specimens;
+pub mod walk;
 
 #[cfg(test)]
 mod tests;
@@ -243,21 +246,43 @@ fn coefficients_from(samples: Net) -> Option<[i128; 27]> {
 /// thus held times 8 * 64^m".  Exact whenever 64 times each fits 128 bits.
 /// All 27 are `i128::MIN` if a division should leave a remainder.
 pub fn coefficients(points: &[i64; 24], m: u32, a: u64, b: u64, c: u64) -> [i128; 27] {
-    let steps = two_to(m.saturating_add(1));
     let low = [a, b, c].map(|number| 2 * i128::from(number));
-    let mut samples: Net = [[[0; 3]; 3]; 3];
-    for [i, j, k] in *PLACES {
-        let at = [low[0] + i as i128, low[1] + j as i128, low[2] + k as i128];
-        samples[i][j][k] = jacobian_at(points, steps, at);
-    }
-    coefficients_from(samples).unwrap_or([i128::MIN; 27])
+    let block = Grid::block(points, two_to(m.saturating_add(1)), low, 3);
+    coefficients_from(block.on_the_cube([0; 3])).unwrap_or([i128::MIN; 27])
+}
+
+/// The half of 27 numbers in one direction, the upper one or the lower one.
+///
+/// 01: "A row (p, q, r) cut in the middle gives (p, (p+q)/2, (p+2q+r)/4) and
+/// ((p+2q+r)/4, (q+r)/2, r) [...] Kept four times larger it needs no division."
+/// Exact whenever four times each number fits 128 bits.
+pub fn half(direction: usize, upper: bool, numbers: &[i128; 27]) -> [i128; 27] {
+    let number_at = |place: [usize; 3]| {
+        let at = PLACES.iter().position(|&other| other == place);
+        at.map_or(0, |at| numbers[at])
+    };
+    let twice = |x: i128| x.wrapping_add(x);
+    PLACES.map(|place| {
+        let [p, q, r] = [0, 1, 2].map(|along| {
+            let mut on_the_row = place;
+            on_the_row[direction] = along;
+            number_at(on_the_row)
+        });
+        match (upper, place[direction]) {
+            (false, 0) => twice(twice(p)),
+            (false, 1) => twice(p.wrapping_add(q)),
+            (true, 1) => twice(q.wrapping_add(r)),
+            (true, 2) => twice(twice(r)),
+            _ => p.wrapping_add(twice(q)).wrapping_add(r),
+        }
+    })
 }
 
 // ------------------------------------------------------------------- grids --
 
-/// 64^m J at every grid point of level m.
+/// 64^m J at every grid point of level m, or at those of a block.
 struct Grid {
-    /// Points on one axis: 2^m + 1.
+    /// Points on one axis: 2^m + 1 of a whole level.
     side: usize,
     values: Vec<i128>,
 }
@@ -265,21 +290,27 @@ struct Grid {
 impl Grid {
     /// 01: "A grid point of level m, for any whole m from 0 up, past the
     /// largest depth too, is (a, b, c)/2^m with a, b, c in 0..2^m".
+    fn sampled(points: &[i64; 24], m: u32) -> Grid {
+        let side = (1usize << m.min(REACH_DEPTH + 1)) + 1;
+        Grid::block(points, two_to(m), [0; 3], side)
+    }
+
+    /// The points from `low` on, `side` of them on each axis, `steps` being 2^m.
     ///
     /// A partial derivative is the same all along its own direction, and is
     /// worked once for each pair of the other two numbers.
-    fn sampled(points: &[i64; 24], m: u32) -> Grid {
-        let side = (1usize << m.min(REACH_DEPTH + 1)) + 1;
+    fn block(points: &[i64; 24], steps: i128, low: [i128; 3], side: usize) -> Grid {
         let on_a_face = |direction: usize| -> Vec<[i128; 3]> {
             let along = |pair: usize| {
                 let (i, j) = ((pair / side) as i128, (pair % side) as i128);
-                let at = [[0, i, j], [i, 0, j], [i, j, 0]][direction];
-                partial(points, two_to(m), at, direction)
+                let from_low = [[0, i, j], [i, 0, j], [i, j, 0]][direction];
+                let at = [0, 1, 2].map(|axis| low[axis] + from_low[axis]);
+                partial(points, steps, at, direction)
             };
             (0..side * side).map(along).collect()
         };
         let [xi, eta, zeta] = [0, 1, 2].map(on_a_face);
-        let mut values = Vec::new();
+        let mut values = Vec::with_capacity(side * side * side);
         for a in 0..side {
             for b in 0..side {
                 for c in 0..side {
@@ -481,54 +512,84 @@ fn word(held: i128) -> i64 {
     held.clamp(i128::from(i64::MIN), i128::from(i64::MAX)) as i64
 }
 
-/// The record's words 2 to 5 for a fault: grid numbers and number.
-fn fault_record(kind: i64, found: &Found, at: [u32; 3], opened: i64) -> [i64; 8] {
-    let [a, b, c] = at.map(i64::from);
-    let number = found.fault.number as i64;
-    [kind, found.level as i64, a, b, c, number, word(found.fault.held), opened]
+/// What a record says, its value in full.
+#[derive(Clone, Copy, Debug, PartialEq, Eq)]
+pub struct Said {
+    /// 0 valid, 1 invalid, 2 undecided.
+    pub kind: i64,
+    pub level: u32,
+    /// Grid numbers of the point or of the cube.
+    pub at: [u32; 3],
+    /// Number of the corner or of the coefficient.
+    pub number: usize,
+    pub held: i128,
+    pub opened: i64,
+}
+
+impl Said {
+    fn first_words(&self) -> [i64; 6] {
+        let [a, b, c] = self.at.map(i64::from);
+        [self.kind, i64::from(self.level), a, b, c, self.number as i64]
+    }
+
+    /// 01's table.
+    pub fn eight_words(&self) -> [i64; 8] {
+        let [kind, level, a, b, c, number] = self.first_words();
+        [kind, level, a, b, c, number, word(self.held), self.opened]
+    }
+
+    /// 02, No. 8: "Word 6 becomes two words, low 64 bits and then high, as two's
+    /// complement; the opened count moves to word 8, and a record is nine words."
+    pub fn nine_words(&self) -> [i64; 9] {
+        let [kind, level, a, b, c, number] = self.first_words();
+        let [low, high] = two_words(self.held);
+        [kind, level, a, b, c, number, low as i64, high as i64, self.opened]
+    }
+}
+
+/// Low 64 bits and then high, as two's complement.
+pub fn two_words(held: i128) -> [u64; 2] {
+    [held as u64, (held >> 64) as u64]
 }
 
 /// 01's table, column "invalid": "level", "a, b, c of the point", "corner
-/// number", "J times 8 * 64^level", "opened".
-fn invalid_record(levels: &[Level], found: &Found) -> [i64; 8] {
-    let cube = levels[found.level].cubes[found.index].at;
-    let place = CORNERS[found.fault.number - 1];
-    let point = [0, 1, 2].map(|axis| cube[axis] + place[axis]);
-    fault_record(1, found, point, opened(levels, Some(found)))
+/// number", "J times 8 * 64^level", "opened".  The corner is one of the cube `at`.
+fn invalid(level: u32, at: [u32; 3], fault: Fault, opened: i64) -> Said {
+    let place = CORNERS[fault.number - 1];
+    let point = [0, 1, 2].map(|axis| at[axis] + place[axis]);
+    Said { kind: 1, level, at: point, number: fault.number, held: fault.held, opened }
 }
 
 /// Column "undecided": "D", "a, b, c of the cube", "coefficient number",
 /// "coefficient, held as above", "opened".
-fn undecided_record(levels: &[Level], found: &Found) -> [i64; 8] {
-    let cube = levels[found.level].cubes[found.index].at;
-    fault_record(2, found, cube, opened(levels, None))
+fn undecided(level: u32, at: [u32; 3], fault: Fault, opened: i64) -> Said {
+    Said { kind: 2, level, at, number: fault.number, held: fault.held, opened }
 }
 
 /// Column "valid": the level, the opened count, and 0 between.
-fn valid_record(levels: &[Level], level: usize) -> [i64; 8] {
-    [0, level as i64, 0, 0, 0, 0, 0, opened(levels, None)]
+fn valid(level: u32, opened: i64) -> Said {
+    Said { kind: 0, level, at: [0; 3], number: 0, held: 0, opened }
 }
 
-fn record_of(levels: &[Level]) -> [i64; 8] {
+fn record_of(levels: &[Level]) -> Option<Said> {
+    let at = |found: &Found| levels[found.level].cubes[found.index].at;
     if let Some(found) = invalid_point(levels) {
-        return invalid_record(levels, &found);
+        let opened = opened(levels, Some(&found));
+        return Some(invalid(found.level as u32, at(&found), found.fault, opened));
     }
+    let opened = opened(levels, None);
     if let Some(level) = valid_level(levels) {
-        return valid_record(levels, level);
+        return Some(valid(level as u32, opened));
     }
-    match undecided_cube(levels) {
-        Some(found) => undecided_record(levels, &found),
-        None => OUT_OF_REACH,
-    }
+    let found = undecided_cube(levels)?;
+    Some(undecided(found.level as u32, at(&found), found.fault, opened))
 }
 
 /// 01: "Their record at a depth follows from the verdict by this table".
 /// `OUT_OF_REACH` past the reach of this program.
 pub fn record(points: &[i64; 24], depth: u32) -> [i64; 8] {
-    match look_at_all(points, depth) {
-        Some(levels) => record_of(&levels),
-        None => OUT_OF_REACH,
-    }
+    let said = look_at_all(points, depth).and_then(|levels| record_of(&levels));
+    said.map_or(OUT_OF_REACH, |said| said.eight_words())
 }
 
 // ------------------------------------------------------------------ bounds --
@@ -552,16 +613,17 @@ pub fn bounds_of(points: &[i64; 24], depth: u32) -> (i128, i128) {
     look_at_level(points, depth).map_or(nothing_known, |level| level_bounds(&level))
 }
 
-/// A record, and low and high.
-pub type RecordAndBounds = ([i64; 8], (i128, i128));
+/// What a record says, and low and high.
+pub type RecordAndBounds = (Said, (i128, i128));
 
 /// The record and both bounds at every depth from 0 to `depth`, each level
 /// being looked at once: what `record` and `bounds_of` give one by one.
 /// None past the reach.
 pub fn over_depths(points: &[i64; 24], depth: u32) -> Option<Vec<RecordAndBounds>> {
     let levels = look_at_all(points, depth)?;
-    let at_depth = |depth: usize| (record_of(&levels[..=depth]), level_bounds(&levels[depth]));
-    Some((0..levels.len()).map(at_depth).collect())
+    let at_depth =
+        |depth: usize| Some((record_of(&levels[..=depth])?, level_bounds(&levels[depth])));
+    (0..levels.len()).map(at_depth).collect()
 }
 
 /// What the bounds service answers.

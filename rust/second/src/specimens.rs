@@ -144,13 +144,13 @@ impl Shaker {
         twisted(half, height, p, q)
     }
 
-    /// Over the whole range of 01, its ends included.
-    pub fn wide(&mut self) -> Points {
-        let ends = [-4096, 4096];
-        let mut points = cube(-4096, 4096);
+    /// Over a whole range, its ends included.
+    pub fn wide(&mut self, range: i64) -> Points {
+        let ends = [-range, range];
+        let mut points = cube(-range, range);
         for x in points.iter_mut() {
             match self.between(0, 5) {
-                0 => *x = self.between(-4096, 4096),
+                0 => *x = self.between(-range, range),
                 1 => *x = ends[self.between(0, 1) as usize],
                 _ => {}
             }
@@ -247,7 +247,7 @@ impl Shaker {
             4 | 5 => self.twisted(),
             6 => self.plain_twist(),
             7 => self.mirrored(),
-            8 => self.wide(),
+            8 => self.wide(4096),
             9 => self.collapsed(),
             _ => self.needs_cutting(),
         };

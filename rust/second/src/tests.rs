@@ -772,7 +772,10 @@ fn all_depths_at_once() {
         let (points, depth) = (shaker.element(), turn % 4);
         let singly: Vec<_> =
             (0..=depth).map(|d| (record(&points, d), bounds_of(&points, d))).collect();
-        assert_eq!(super::over_depths(&points, depth), Some(singly));
+        let at_once = super::over_depths(&points, depth).expect("within reach");
+        let at_once: Vec<_> =
+            at_once.into_iter().map(|(said, bounds)| (said.eight_words(), bounds)).collect();
+        assert_eq!(at_once, singly);
     }
     assert_eq!(super::over_depths(&[i64::MAX; 24], 0), None);
     assert_eq!(super::over_depths(&[0; 24], REACH_DEPTH + 1), None);
