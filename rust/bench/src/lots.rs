@@ -12,7 +12,7 @@ pub struct Lot {
     pub indices: Vec<u32>,
 }
 
-const IN_ORDER: [u32; 8] = [0, 1, 2, 3, 4, 5, 6, 7];
+pub const IN_ORDER: [u32; 8] = [0, 1, 2, 3, 4, 5, 6, 7];
 
 fn narrow(points: &Points) -> [i32; 24] {
     points.map(|x| x.clamp(-4096, 4096) as i32)

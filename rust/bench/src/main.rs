@@ -1,14 +1,16 @@
 //! Time an element: the built library, an ordinary Rust version with direct
 //! formulas, that version with the library's sparing of clear halves, and the
-//! library's own method in ordinary Rust.  Time a lot file: the library, and
-//! ordinary Rust readers, a writer and a printer of slips.
+//! library's own method in ordinary Rust.  Time a half and an element in numbers of
+//! two words: the library's inner services, and the same versions.  Time a lot file:
+//! the library, and ordinary Rust readers, a writer and a printer of slips.
 //!
 //! Prints, for lots of 900 elements at depth 3, the best of several rounds in
 //! microseconds an element and the ratios.  The four reports of each lot must
-//! be the same, word for word; so must what the readers give of each file, the
-//! writers of each lot and the printers of each slip.
-//! Use: `bench`, or `bench ROUNDS`, or `bench ROUNDS NAME` for the lots and
-//! files whose name begins with NAME.
+//! be the same, word for word; so must be halves and records in numbers of two words,
+//! what the readers give of each file, the writers of each lot and the printers of
+//! each slip.
+//! Use: `bench`, or `bench ROUNDS`, or `bench ROUNDS NAME` for the lots, files and
+//! the like whose name begins with NAME.
 
 #![deny(warnings)]
 // The tests of lengths read as the rules do.
@@ -22,6 +24,7 @@ mod reading;
 mod same_method;
 mod slips;
 mod timing;
+mod wide;
 mod writer;
 mod writing;
 
@@ -124,6 +127,7 @@ fn main() -> Result<(), String> {
             library / same
         );
     }
+    wide::print(rounds, &name)?;
     reading::print(rounds, &name)?;
     writing::print(rounds, &name)?;
     slips::print(rounds, &lots)

@@ -1,7 +1,70 @@
-//! What the Rust versions share: the tests of a mesh and of its elements, and
-//! the eight words of a record.  An ordinary program, without proofs.
+//! What the Rust versions share: the tests of a mesh and of its elements, the words
+//! of a record, and the numbers that they reckon in, of one word or of two.  An
+//! ordinary program, without proofs.
+
+use std::iter::Sum;
+use std::ops::{Add, Sub};
 
 pub type Record = [i64; 8];
+
+/// With a value of two words, low and then high, before the count.
+pub type WideRecord = [i64; 9];
+
+/// A number that coefficients are held in.
+pub trait Held: Copy + Ord + Add<Output = Self> + Sub<Output = Self> + Sum {
+    const ZERO: Self;
+
+    /// With a value that is such a number.
+    type Record;
+
+    /// The record of its words 0 to 5, its value and the cubes opened.
+    fn record(words: [i64; 6], held: Self, opened: u32) -> Self::Record;
+    /// The product of two numbers of one word.
+    fn product(x: i64, y: i64) -> Self;
+    fn times(self, by: i64) -> Self;
+}
+
+impl Held for i64 {
+    const ZERO: i64 = 0;
+
+    type Record = Record;
+
+    #[inline(always)]
+    fn record([kind, level, a, b, c, number]: [i64; 6], held: i64, opened: u32) -> Record {
+        [kind, level, a, b, c, number, held, i64::from(opened)]
+    }
+
+    #[inline(always)]
+    fn product(x: i64, y: i64) -> i64 {
+        x * y
+    }
+
+    #[inline(always)]
+    fn times(self, by: i64) -> i64 {
+        self * by
+    }
+}
+
+impl Held for i128 {
+    const ZERO: i128 = 0;
+
+    type Record = WideRecord;
+
+    #[inline(always)]
+    fn record([kind, level, a, b, c, number]: [i64; 6], held: i128, opened: u32) -> WideRecord {
+        [kind, level, a, b, c, number, held as i64, (held >> 64) as i64, i64::from(opened)]
+    }
+
+    #[inline(always)]
+    fn product(x: i64, y: i64) -> i128 {
+        i128::from(x) * i128::from(y)
+    }
+
+    #[inline(always)]
+    fn times(self, by: i64) -> i128 {
+        self * i128::from(by)
+    }
+}
 
 /// Number, valid, invalid, undecided, refused.
 pub type Answer = [u32; 5];
@@ -86,10 +149,10 @@ pub fn inspect(
 
 /// The six-fold volume that three vectors span.
 #[inline(always)]
-pub fn determinant(u: [i64; 3], v: [i64; 3], w: [i64; 3]) -> i64 {
-    u[0] * (v[1] * w[2] - v[2] * w[1])
-        + u[1] * (v[2] * w[0] - v[0] * w[2])
-        + u[2] * (v[0] * w[1] - v[1] * w[0])
+pub fn determinant<N: Held>(u: [i64; 3], v: [i64; 3], w: [i64; 3]) -> N {
+    N::product(u[0], v[1] * w[2] - v[2] * w[1])
+        + N::product(u[1], v[2] * w[0] - v[0] * w[2])
+        + N::product(u[2], v[0] * w[1] - v[1] * w[0])
 }
 
 #[inline(always)]
@@ -107,17 +170,29 @@ pub const CORNERS: [[u32; 3]; 8] =
     [[0, 0, 0], [1, 0, 0], [1, 1, 0], [0, 1, 0], [0, 0, 1], [1, 0, 1], [1, 1, 1], [0, 1, 1]];
 
 /// The record of a corner of some cube with J not above 0.
-pub fn invalid(level: u32, cube: [u32; 3], corner: usize, held: i64, opened: u32) -> Record {
+pub fn invalid<N: Held>(
+    level: u32,
+    cube: [u32; 3],
+    corner: usize,
+    held: N,
+    opened: u32,
+) -> N::Record {
     let [a, b, c] = [0, 1, 2].map(|axis| i64::from(cube[axis] + CORNERS[corner][axis]));
-    [1, i64::from(level), a, b, c, corner as i64 + 1, held, i64::from(opened)]
+    N::record([1, i64::from(level), a, b, c, corner as i64 + 1], held, opened)
 }
 
-pub fn valid(level: u32, opened: u32) -> Record {
-    [0, i64::from(level), 0, 0, 0, 0, 0, i64::from(opened)]
+pub fn valid<N: Held>(level: u32, opened: u32) -> N::Record {
+    N::record([0, i64::from(level), 0, 0, 0, 0], N::ZERO, opened)
 }
 
 /// The record of the first coefficient not above 0 at the depth.
-pub fn undecided(depth: u32, cube: [u32; 3], number: usize, held: i64, opened: u32) -> Record {
+pub fn undecided<N: Held>(
+    depth: u32,
+    cube: [u32; 3],
+    number: usize,
+    held: N,
+    opened: u32,
+) -> N::Record {
     let [a, b, c] = cube.map(i64::from);
-    [2, i64::from(depth), a, b, c, number as i64, held, i64::from(opened)]
+    N::record([2, i64::from(depth), a, b, c, number as i64], held, opened)
 }

@@ -1,12 +1,12 @@
 //! The product's own method in ordinary Rust: twenty volumes, each row of the
 //! table from the list of its non-zero places, coefficients in the order of their
 //! numbers, one pass of the search for every level, children made by halves, and
-//! those of a half without a low coefficient passed over.  The rows are one loop;
-//! in the library they are four, which the compiler writes out.
+//! those of a half without a low coefficient passed over.  The rows of the table are
+//! one loop; in the library they are four, which the compiler writes out.  A half
+//! branches six ways, and its rows are written out, as in the library.  For numbers
+//! of one word and of two.
 
-use crate::mesh::{
-    determinant, difference, invalid, sum, undecided, valid, Answer, Record, CORNERS,
-};
+use crate::mesh::{determinant, difference, invalid, sum, undecided, valid, Answer, Held, CORNERS};
 
 /// The table's rows without their zeros: where each row's list starts, the
 /// places in it and the numbers at them.
@@ -120,24 +120,51 @@ const fn lists(table: [i64; 540]) -> Lists {
 /// The nine rows of three coefficients in xi, eta and zeta, by their numbers
 /// from 0.
 #[rustfmt::skip]
-static ROWS: [[[usize; 3]; 9]; 3] = [
-    [[0, 8, 1], [12, 21, 13], [4, 16, 5], [11, 20, 9], [24, 26, 22], [19, 25, 17],
-     [3, 10, 2], [15, 23, 14], [7, 18, 6]],
-    [[0, 11, 3], [12, 24, 15], [4, 19, 7], [8, 20, 10], [21, 26, 23], [16, 25, 18],
-     [1, 9, 2], [13, 22, 14], [5, 17, 6]],
-    [[0, 12, 4], [11, 24, 19], [3, 15, 7], [8, 21, 16], [20, 26, 25], [10, 23, 18],
-     [1, 13, 5], [9, 22, 17], [2, 14, 6]],
+const ROWS: [[[usize; 3]; 9]; 3] = [
+    [
+        [0, 8, 1],
+        [12, 21, 13],
+        [4, 16, 5],
+        [11, 20, 9],
+        [24, 26, 22],
+        [19, 25, 17],
+        [3, 10, 2],
+        [15, 23, 14],
+        [7, 18, 6],
+    ],
+    [
+        [0, 11, 3],
+        [12, 24, 15],
+        [4, 19, 7],
+        [8, 20, 10],
+        [21, 26, 23],
+        [16, 25, 18],
+        [1, 9, 2],
+        [13, 22, 14],
+        [5, 17, 6],
+    ],
+    [
+        [0, 12, 4],
+        [11, 24, 19],
+        [3, 15, 7],
+        [8, 21, 16],
+        [20, 26, 25],
+        [10, 23, 18],
+        [1, 13, 5],
+        [9, 22, 17],
+        [2, 14, 6],
+    ],
 ];
 
-type Net = [i64; 27];
+pub type Net<N> = [N; 27];
 
 pub fn inspect(coordinates: &[i32], indices: &[u32], depth: u32, report: &mut [i64]) -> Answer {
-    crate::mesh::inspect(coordinates, indices, depth, report, record)
+    crate::mesh::inspect(coordinates, indices, depth, report, record::<i64>)
 }
 
 /// J at corner a, whose neighbours are b, c and d; nodes go by their numbers.
 #[inline(always)]
-fn at_corner(n: &[[i64; 3]; 8], a: usize, b: usize, c: usize, d: usize) -> i64 {
+fn at_corner<N: Held>(n: &[[i64; 3]; 8], a: usize, b: usize, c: usize, d: usize) -> N {
     let to = |b: usize| difference(n[a - 1], n[b - 1]);
     determinant(to(b), to(c), to(d))
 }
@@ -145,12 +172,17 @@ fn at_corner(n: &[[i64; 3]; 8], a: usize, b: usize, c: usize, d: usize) -> i64 {
 /// Four times J at the middle of edge a-b: the tetrahedron's other vertices are
 /// the middles of c and d and of e and f.
 #[inline(always)]
-fn at_edge(n: &[[i64; 3]; 8], [a, b]: [usize; 2], [c, d]: [usize; 2], [e, f]: [usize; 2]) -> i64 {
+fn at_edge<N: Held>(
+    n: &[[i64; 3]; 8],
+    [a, b]: [usize; 2],
+    [c, d]: [usize; 2],
+    [e, f]: [usize; 2],
+) -> N {
     let to = |b: usize| difference(n[a - 1], n[b - 1]);
     determinant(to(b), sum(to(c), to(d)), sum(to(e), to(f)))
 }
 
-fn volumes(n: &[[i64; 3]; 8]) -> [i64; 20] {
+fn volumes<N: Held>(n: &[[i64; 3]; 8]) -> [N; 20] {
     [
         at_corner(n, 1, 2, 4, 5),
         at_corner(n, 2, 3, 1, 6),
@@ -176,46 +208,62 @@ fn volumes(n: &[[i64; 3]; 8]) -> [i64; 20] {
 }
 
 /// The 27 coefficients, times 8: the list of every row against the volumes.
-fn coefficients(n: &[[i64; 3]; 8]) -> Net {
-    let volumes = volumes(n);
-    let mut net = [0; 27];
+fn coefficients<N: Held>(n: &[[i64; 3]; 8]) -> Net<N> {
+    let volumes: [N; 20] = volumes(n);
+    let mut net = [N::ZERO; 27];
     for (coefficient, ends) in net.iter_mut().zip(LISTS.starts.windows(2)) {
         let (columns, values) = (&LISTS.columns[ends[0]..ends[1]], &LISTS.values[ends[0]..ends[1]]);
-        *coefficient = columns.iter().zip(values).map(|(&at, value)| value * volumes[at]).sum();
+        *coefficient =
+            columns.iter().zip(values).map(|(&at, &value)| volumes[at].times(value)).sum();
     }
     net
 }
 
 /// The lowest number of a coefficient not above 0; 0 where there is none.
-fn lowest(net: &Net) -> usize {
-    net.iter().position(|&x| x <= 0).map_or(0, |at| at + 1)
+fn lowest<N: Held>(net: &Net<N>) -> usize {
+    net.iter().position(|&x| x <= N::ZERO).map_or(0, |at| at + 1)
 }
 
 /// One half in a direction, four times larger.
-fn halve(net: &Net, direction: usize, side: u32, out: &mut Net) {
-    for &[x, y, z] in &ROWS[direction] {
+#[inline(never)]
+pub fn halve<N: Held>(net: &Net<N>, direction: u32, side: u32, out: &mut Net<N>) {
+    match (direction, side) {
+        (0, 0) => half::<N, 0, false>(net, out),
+        (1, 0) => half::<N, 1, false>(net, out),
+        (_, 0) => half::<N, 2, false>(net, out),
+        (0, _) => half::<N, 0, true>(net, out),
+        (1, _) => half::<N, 1, true>(net, out),
+        (_, _) => half::<N, 2, true>(net, out),
+    }
+}
+
+#[inline(always)]
+fn half<N: Held, const DIRECTION: usize, const UPPER: bool>(net: &Net<N>, out: &mut Net<N>) {
+    for [x, y, z] in ROWS[DIRECTION] {
         let (p, q, r) = (net[x], net[y], net[z]);
-        let middle = p + 2 * q + r;
-        let half =
-            if side == 1 { [middle, 2 * (q + r), 4 * r] } else { [4 * p, 2 * (p + q), middle] };
-        [out[x], out[y], out[z]] = half;
+        let middle = p + q.times(2) + r;
+        [out[x], out[y], out[z]] = if UPPER {
+            [middle, (q + r).times(2), r.times(4)]
+        } else {
+            [p.times(4), (p + q).times(2), middle]
+        };
     }
 }
 
 /// What a pass has found.
-enum Found {
+enum Found<N> {
     Nothing,
-    Coefficient { cube: [u32; 3], number: usize, held: i64 },
-    Corner { cube: [u32; 3], corner: usize, held: i64 },
+    Coefficient { cube: [u32; 3], number: usize, held: N },
+    Corner { cube: [u32; 3], corner: usize, held: N },
 }
 
-struct Pass {
+struct Pass<N> {
     opened: u32,
-    found: Found,
+    found: Found<N>,
 }
 
-impl Pass {
-    fn open(&mut self, net: &Net, cube: [u32; 3]) {
+impl<N: Held> Pass<N> {
+    fn open(&mut self, net: &Net<N>, cube: [u32; 3]) {
         self.opened += 1;
         let number = lowest(net);
         if number == 0 {
@@ -236,7 +284,7 @@ impl Pass {
         }
     }
 
-    fn visit(&mut self, net: &Net, cube: [u32; 3], left: u32) {
+    fn visit(&mut self, net: &Net<N>, cube: [u32; 3], left: u32) {
         if matches!(self.found, Found::Corner { .. }) {
             return;
         }
@@ -246,7 +294,7 @@ impl Pass {
         if lowest(net) == 0 {
             return;
         }
-        let (mut half, mut quarter, mut child) = ([0; 27], [0; 27], [0; 27]);
+        let [mut half, mut quarter, mut child] = [[N::ZERO; 27]; 3];
         let mut k = 0;
         while k < 8 && !matches!(self.found, Found::Corner { .. }) {
             let place = CORNERS[k];
@@ -274,8 +322,8 @@ impl Pass {
     }
 }
 
-fn record(n: &[[i64; 3]; 8], depth: u32) -> Record {
-    let net = coefficients(n);
+pub fn record<N: Held>(n: &[[i64; 3]; 8], depth: u32) -> N::Record {
+    let net: Net<N> = coefficients(n);
     let mut opened = 0;
     let mut level = 0;
     loop {
@@ -283,7 +331,7 @@ fn record(n: &[[i64; 3]; 8], depth: u32) -> Record {
         pass.visit(&net, [0; 3], level);
         opened = pass.opened;
         match pass.found {
-            Found::Nothing => return valid(level, opened),
+            Found::Nothing => return valid::<N>(level, opened),
             Found::Corner { cube, corner, held } => {
                 return invalid(level, cube, corner, held, opened);
             }
