@@ -109,7 +109,7 @@ struct Element {
     times: u32,
 }
 
-fn in_words(points: Points) -> [i32; 24] {
+fn of_32_bits(points: Points) -> [i32; 24] {
     points.map(|x| i32::try_from(x).expect("a coordinate of 32 bits"))
 }
 
@@ -117,7 +117,7 @@ fn in_words(points: Points) -> [i32; 24] {
 fn elements() -> [Element; 3] {
     let mut shaker = Shaker::new(2028);
     let shaken = cube(-3000, 3000).map(|x| x + shaker.between(-600, 600));
-    let [shaken, f] = [shaken, twisted(1, 1, 2, 2)].map(in_words);
+    let [shaken, f] = [shaken, twisted(1, 1, 2, 2)].map(of_32_bits);
     [
         Element { name: "valid at level 0", points: shaken, depth: 3, times: 100 },
         Element { name: "undecided (case F)", points: f, depth: 3, times: 10 },
@@ -209,7 +209,7 @@ pub fn print(rounds: u32, name: &str) -> Result<(), String> {
 
 #[cfg(test)]
 mod tests {
-    use super::{checked, checked_halves, drawn_net, in_words};
+    use super::{checked, checked_halves, drawn_net, of_32_bits};
     use second::specimens::Shaker;
 
     #[test]
@@ -227,7 +227,7 @@ mod tests {
         let mut met = [[0; 3]; 2];
         for turn in 0..20_000 {
             let times = [1, 256][turn % 2];
-            let points = in_words(shaker.element().map(|x| x * times));
+            let points = of_32_bits(shaker.element().map(|x| x * times));
             let record = checked(&points, turn as u32 % 6).expect("the same record");
             met[turn % 2][record[0] as usize] += 1;
         }

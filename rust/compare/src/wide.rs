@@ -56,7 +56,7 @@ fn at_the_ends() -> [Points; 3] {
 
 /// Elements with a zero at grid points of each level, and at none of a lesser one.
 fn zeros_at_levels() -> Vec<[i32; 24]> {
-    let odd = |level: u32| [1, (1 << level) / 3 | 1, (1 << level) - 1];
+    let odd = |level: u32| [1, ((1 << level) / 3) | 1, (1 << level) - 1];
     let zeros = (1..=DEPTH).flat_map(|level| odd(level).map(|k| draw::zero_at(level, k)));
     zeros.map(draw::largest).collect()
 }

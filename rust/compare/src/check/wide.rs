@@ -41,8 +41,11 @@ fn in_old_range(points: &[i32; 24]) -> bool {
 
 /// What the public services say of points in the old range, at its depths.
 fn public(first: Program, points: &[i32; 24]) -> Vec<AtDepth> {
-    let asked = in_old_range(points);
-    asked.then(|| first.inspects.over_depths(points, LARGEST_DEPTH)).unwrap_or_default()
+    if in_old_range(points) {
+        first.inspects.over_depths(points, LARGEST_DEPTH)
+    } else {
+        vec![]
+    }
 }
 
 /// A record of eight words in nine.

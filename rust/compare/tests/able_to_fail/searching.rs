@@ -267,17 +267,16 @@ fn the_rules_of_two_words_are_tested() {
     let records = |points| move |depth| Question::WideRecords { depth, points };
     let bounds = |points| move |depth| Question::WideBounds { depth, points };
     let [a, f] = ["A", "F"].map(points_of);
-    let faults: [(Unsteady, &dyn Fn(u32) -> Question, &str); 6] = [
-        (Unsteady::DecisionChanges, &records(a), "at a greater depth"),
-        (Unsteady::ApartFromThePublicRecord, &records(a), "and the public one is"),
-        (Unsteady::LowFalls, &bounds(a), "512 and 512 became 32767 and 32768"),
-        (Unsteady::HighRises, &bounds(a), "512 and 512 became 32768 and 32769"),
-        (Unsteady::RecordApartFromBounds, &bounds(f), "with bounds"),
-        (Unsteady::ApartFromThePublicBounds, &bounds(a), "and the public ones are"),
+    let faults = [
+        (Unsteady::DecisionChanges, [0, 4].map(records(a)), "at a greater depth"),
+        (Unsteady::ApartFromThePublicRecord, [0, 4].map(records(a)), "and the public one is"),
+        (Unsteady::LowFalls, [0, 4].map(bounds(a)), "512 and 512 became 32767 and 32768"),
+        (Unsteady::HighRises, [0, 4].map(bounds(a)), "512 and 512 became 32768 and 32769"),
+        (Unsteady::RecordApartFromBounds, [0, 4].map(bounds(f)), "with bounds"),
+        (Unsteady::ApartFromThePublicBounds, [0, 4].map(bounds(a)), "and the public ones are"),
     ];
-    for (fault, question, rule) in faults {
-        for depth in [0, 4] {
-            let question = question(depth);
+    for (fault, questions, rule) in faults {
+        for question in questions {
             assert!(ask(PRODUCT, SECOND, &question).is_ok());
             let pair = alike(Program { searches: &fault, ..PRODUCT });
             let found = pair.ask_again(&question).expect_err("a fault in both places");
