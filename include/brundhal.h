@@ -38,15 +38,57 @@
 extern "C" {
 #endif
 
+/* The version of this header, and of the library that is linked. It rises whenever a
+ * layout, a limit or an answer that a caller sees changes. Header and library are of
+ * one layout only where brundhal_version() == BRUNDHAL_VERSION: a caller asks this
+ * first, and where it does not hold calls no other function. A library before
+ * version 2 does not have the function, and such a caller does not link with it. */
+#define BRUNDHAL_VERSION 2
+uint32_t brundhal_version(void);
+
+/* Limits: a usable coordinate is from -1,048,576 to 1,048,576; depths are 0 to 8. A
+ * slip is printed of 900 elements at most. */
+#define BRUNDHAL_MAX_COORDINATE 1048576
+#define BRUNDHAL_MAX_DEPTH 8
+#define BRUNDHAL_MAX_NODES 5000
+#define BRUNDHAL_MAX_ELEMENTS 1000
+#define BRUNDHAL_SLIP_ELEMENTS 900
+
+/* The numbers of refusals. What each function refuses, and in which order, stands
+ * with its answer. */
+#define BRUNDHAL_REFUSED_DEPTH 1
+#define BRUNDHAL_REFUSED_NODES 2
+#define BRUNDHAL_REFUSED_ELEMENTS 3
+#define BRUNDHAL_REFUSED_REPORT 4
+#define BRUNDHAL_REFUSED_INDEX 5
+#define BRUNDHAL_REFUSED_COORDINATE 6
+#define BRUNDHAL_REFUSED_TWICE 7
+#define BRUNDHAL_REFUSED_LONG_FILE 20
+#define BRUNDHAL_REFUSED_CUT_SHORT 21
+#define BRUNDHAL_REFUSED_MARK 22
+#define BRUNDHAL_REFUSED_LENGTH 23
+#define BRUNDHAL_REFUSED_OUT_OF_PLACE 24
+#define BRUNDHAL_REFUSED_BYTE 25
+#define BRUNDHAL_REFUSED_TOO_MANY 26
+#define BRUNDHAL_REFUSED_SPACE 27
+#define BRUNDHAL_REFUSED_NO_ELEMENT 28
+
+/* A signed number of two words, low 64 bits and then high, as two's complement:
+ * high, as a signed number, times 2^64, and low. It is from -2^127 to 2^127 - 1, and
+ * any two words are such a number. Its services stand at the end. */
+typedef struct {
+    uint64_t low, high;
+} BrundhalNumber;
+
 /* Report words an element: the length of a record. */
-#define BRUNDHAL_RECORD_WORDS 8
+#define BRUNDHAL_RECORD_WORDS 9
 
 /* The answer of an inspection. number is 0 for an accepted mesh. A refused mesh
  * has all four counts 0, and its number is
- *   1  the depth is above 3
+ *   1  the depth is above 8
  *   2  coordinates_len is no multiple of 3, or there are over 5,000 nodes
  *   3  indices_len is no multiple of 8, or there are over 1,000 elements
- *   4  report_len is not exactly 8 words an element
+ *   4  report_len is not exactly 9 words an element
  * tested in this order. */
 typedef struct {
     uint32_t number;
@@ -55,12 +97,12 @@ typedef struct {
 
 /* Inspects a mesh.
  *   coordinates  x, y, z of node 0, then of node 1, and so on; usable from
- *                -4,096 to 4,096
+ *                -1,048,576 to 1,048,576
  *   indices      eight an element, naming nodes from 0, in the order of the
  *                reference cube's corners (0,0,0), (1,0,0), (1,1,0), (0,1,0),
  *                (0,0,1), (1,0,1), (1,1,1), (0,1,1)
- *   depth        0 to 3
- *   report       eight words an element, in element order
+ *   depth        0 to 8
+ *   report       nine words an element, in element order
  * The report space is written only if the mesh is accepted (number 0), and then
  * every word of it; it need not be cleared before. A record:
  *
@@ -71,29 +113,58 @@ typedef struct {
  *                                                                    6: axis 1..3, 0, 0
  *                                                                    7: higher place, 0, 0
  *   5        0        corner number          coefficient number      0
- *   6        0        J times 8*64^level     the coefficient times   0
+ *   6, 7     0, 0     J times 8*64^level     the coefficient times   0, 0
  *                                            8*64^depth
- *   7        opened   opened                 opened                  0
+ *   8        opened   opened                 opened                  0
  *
+ * Words 6 and 7 are the value, a number of two words, low and then high; each stands
+ * in the report as the signed number of its 64 bits. brundhal_record_value reads it.
  * 5 is an index not below the node count, 7 an index in two places of the element
  * (words 1 and 2, the lower place and the higher), 6 a coordinate outside the
- * range, tested in this order; each concerns that element's record alone. */
+ * range, tested in this order; each concerns that element's record alone. opened is
+ * the number of cubes opened, at most 19,173,961 (at depth 8). */
 BrundhalInspection brundhal_inspect(const int32_t *coordinates, size_t coordinates_len,
                                     const uint32_t *indices, size_t indices_len,
                                     uint32_t depth,
                                     int64_t *report, size_t report_len);
 
+/* The words of a record by name. */
+#define BRUNDHAL_WORD_KIND 0
+#define BRUNDHAL_WORD_LEVEL 1
+#define BRUNDHAL_WORD_A 2
+#define BRUNDHAL_WORD_B 3
+#define BRUNDHAL_WORD_C 4
+#define BRUNDHAL_WORD_NUMBER 5
+#define BRUNDHAL_WORD_VALUE_LOW 6
+#define BRUNDHAL_WORD_VALUE_HIGH 7
+#define BRUNDHAL_WORD_OPENED 8
+
+/* The kinds of a record, beside the refusals 5, 6 and 7. */
+#define BRUNDHAL_VALID 0
+#define BRUNDHAL_INVALID 1
+#define BRUNDHAL_UNDECIDED 2
+
+/* The value of a record, of which record is the first word. */
+static inline BrundhalNumber brundhal_record_value(const int64_t *record)
+{
+    BrundhalNumber value = { (uint64_t)record[BRUNDHAL_WORD_VALUE_LOW],
+                             (uint64_t)record[BRUNDHAL_WORD_VALUE_HIGH] };
+    return value;
+}
+
 /* The answer of the bounds service: number 0 with both bounds, or both 0 with
- *   1  the depth is above 3
+ *   1  the depth is above 8
  *   6  a coordinate is outside the range
  * tested in this order. low is the least coefficient of all cubes of that depth,
  * high the least J over all its grid points, both times 8*64^depth. */
 typedef struct {
     uint32_t number;
-    int64_t low, high;
+    BrundhalNumber low, high;
 } BrundhalBounds;
 
-/* The bounds of eight points, x, y, z of each: 24 numbers, which are only read. */
+/* The bounds of eight points, x, y, z of each: 24 numbers, which are only read. All
+ * cubes of the depth are gone through, eight times as many with each level: depth 8
+ * has 8^8, or 16,777,216, and takes time. */
 BrundhalBounds brundhal_bounds(const int32_t points[24], uint32_t depth);
 
 /* The stamp of an inspection's answer:
@@ -107,7 +178,8 @@ BrundhalBounds brundhal_bounds(const int32_t points[24], uint32_t depth);
 #define BRUNDHAL_NO_STAMP 3
 uint32_t brundhal_stamp(BrundhalInspection answer);
 
-/* A cube's address: its level and the grid numbers of its lowest corner. */
+/* A cube's address: its level, 0 to 8, and the grid numbers of its lowest corner, each
+ * below 2^level. */
 typedef struct {
     uint32_t level, a, b, c;
 } BrundhalAddress;
@@ -128,7 +200,7 @@ BrundhalMove brundhal_parent(BrundhalAddress q);
  * file holds at most 16,382 groups and 58,244 bytes of their names. */
 #define BRUNDHAL_LOT_BYTES 65536
 #define BRUNDHAL_LOT_NODE_WORDS (3 * 4095)
-#define BRUNDHAL_LOT_ELEMENT_WORDS (8 * 1000)
+#define BRUNDHAL_LOT_ELEMENT_WORDS (8 * BRUNDHAL_MAX_ELEMENTS)
 #define BRUNDHAL_LOT_NAME_BYTES 58244
 #define BRUNDHAL_LOT_GROUPS 16382
 
@@ -243,25 +315,19 @@ BrundhalName brundhal_name(const uint8_t *label, size_t label_len,
 #define BRUNDHAL_SLIP_BYTES 262144
 
 /* Prints the slip of a lot file to the front of out, and answers its length. Of an
- * accepted lot, inspected at depth 3:
+ * accepted lot of at most 900 elements, inspected at depth 3:
  *   lot LABEL
- *   N NAME w0 w1 w2 w3 w4 w5 w6 w7      an element from 1, its name, its record
+ *   N NAME w0 w1 w2 w3 w4 w5 w6 w7 w8   an element from 1, its name, its record
  *   tally VALID INVALID UNDECIDED REFUSED
  *   stamp sound                         or faulty, or open
  * and of a refused one the line
  *   refused NUMBER
+ * with the reader's number, or 26 for a lot without fault of more than 900 elements.
  * Every line ends in one line feed; there is no 0 byte at the end. An empty name is
  * printed as nothing, with the spaces beside it. The call needs about 340 KiB of
  * stack. */
 size_t brundhal_slip(const uint8_t *file, size_t file_len,
                      uint8_t out[BRUNDHAL_SLIP_BYTES]);
-
-/* A signed number of two words, low 64 bits and then high, as two's complement:
- * high, as a signed number, times 2^64, and low. It is from -2^127 to 2^127 - 1, and
- * any two words are such a number. */
-typedef struct {
-    uint64_t low, high;
-} BrundhalNumber;
 
 /* A number of two words in one: fits is 1 and value the number, or both are 0 for a
  * number that is not from -2^63 to 2^63 - 1. */
@@ -270,7 +336,7 @@ typedef struct {
     int64_t value;
 } BrundhalSingle;
 
-/* From a number of one word, such as a bound or a word of a record, and back to one. */
+/* From a number of one word, and back to one. */
 BrundhalNumber brundhal_number_from_i64(int64_t x);
 BrundhalSingle brundhal_number_to_i64(BrundhalNumber x);
 

@@ -1,5 +1,5 @@
 /* Inspects the unit cube at depth 3 and prints its record, the counts and the
- * stamp. */
+ * stamp; before that it asks whether header and library are of one version. */
 
 #include <brundhal.h>
 #include <inttypes.h>
@@ -10,7 +10,7 @@
 int main(void)
 {
     /* Three coordinates a node; eight indices an element, in the order of the
-     * reference cube's corners; eight report words an element. */
+     * reference cube's corners; nine report words an element. */
     static const int32_t coordinates[] = {
         0, 0, 0,  1, 0, 0,  1, 1, 0,  0, 1, 0,
         0, 0, 1,  1, 0, 1,  1, 1, 1,  0, 1, 1,
@@ -18,6 +18,11 @@ int main(void)
     static const uint32_t indices[] = { 0, 1, 2, 3, 4, 5, 6, 7 };
     int64_t report[BRUNDHAL_RECORD_WORDS];
 
+    if (brundhal_version() != BRUNDHAL_VERSION) {
+        fprintf(stderr, "header of version %d, library of version %" PRIu32 "\n",
+                BRUNDHAL_VERSION, brundhal_version());
+        return 1;
+    }
     BrundhalInspection answer = brundhal_inspect(coordinates, LENGTH(coordinates),
                                                  indices, LENGTH(indices),
                                                  3, report, LENGTH(report));

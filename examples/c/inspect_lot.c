@@ -16,7 +16,7 @@ static int32_t nodes[BRUNDHAL_LOT_NODE_WORDS];
 static uint32_t elements[BRUNDHAL_LOT_ELEMENT_WORDS];
 static uint8_t names[BRUNDHAL_LOT_NAME_BYTES];
 static uint32_t lengths[BRUNDHAL_LOT_GROUPS], offsets[BRUNDHAL_LOT_GROUPS];
-static int64_t report[LENGTH(elements)];
+static int64_t report[BRUNDHAL_RECORD_WORDS * BRUNDHAL_MAX_ELEMENTS];
 static uint8_t written[BRUNDHAL_LOT_BYTES];
 
 /* Whether the file could be read, and its length. */
@@ -35,7 +35,9 @@ static int read_file(const char *name, size_t *len)
  * whether all were named. */
 static int print_elements(const BrundhalLot *lot)
 {
-    static const char *const verdicts[] = { "valid", "invalid", "undecided" };
+    static const char *const verdicts[] = {
+        [BRUNDHAL_VALID] = "valid", [BRUNDHAL_INVALID] = "invalid", [BRUNDHAL_UNDECIDED] = "undecided",
+    };
     const uint8_t *label = file + lot->start;
 
     for (uint32_t element = 0; element < lot->elements; element++) {
@@ -47,9 +49,9 @@ static int print_elements(const BrundhalLot *lot)
             return 0;
         }
         const uint8_t *bytes = (name.grouped ? names : label) + name.start;
-        int64_t kind = report[BRUNDHAL_RECORD_WORDS * element];
+        int64_t kind = report[BRUNDHAL_RECORD_WORDS * element + BRUNDHAL_WORD_KIND];
         printf("element %" PRIu32 " of %.*s: %s\n", element + 1, (int)name.len,
-               (const char *)bytes, kind <= 2 ? verdicts[kind] : "refused");
+               (const char *)bytes, kind <= BRUNDHAL_UNDECIDED ? verdicts[kind] : "refused");
     }
     return 1;
 }
@@ -91,10 +93,9 @@ int main(int argc, char **argv)
 
     /* What was read goes into the inspection as it is, three coordinates a node
      * and eight indices an element. */
-    size_t indices_len = 8 * (size_t)lot.elements;
     BrundhalInspection answer = brundhal_inspect(nodes, 3 * (size_t)lot.nodes,
-                                                 elements, indices_len,
-                                                 3, report, indices_len);
+                                                 elements, 8 * (size_t)lot.elements, 3, report,
+                                                 BRUNDHAL_RECORD_WORDS * (size_t)lot.elements);
     if (answer.number != 0) {
         fprintf(stderr, "mesh refused %" PRIu32 "\n", answer.number);
         return 1;

@@ -6,7 +6,7 @@ ghost use mathlib.Core.Path.{_≡_};
 ghost use lib.IntN.{pos, _+ℤ_, _-ℤ_, _*ℤ_};
 ghost use lib.ListN.{length, take, drop};
 ghost use lib.Signed.{leZ};
-ghost use Rattle.definitions.specs.Limits.{base};
+ghost use Rattle.definitions.specs.Limits.{base, version};
 ghost use Rattle.definitions.specs.Address.{childAddress, cornerAddress, parentAddress};
 ghost use Rattle.definitions.specs.Mesh.{inspection, reportAfter, boundsOf};
 ghost use Rattle.lot_format.specs.Format.{lotFile};
@@ -34,6 +34,14 @@ use brundhal_name_answers::BrundhalName;
 use brundhal_number_answers::BrundhalNumber;
 use brundhal_number_answers::BrundhalSingle;
 use brundhal_written_answers::BrundhalWritten;
+
+// The version of what the library's callers see.
+#[no_mangle]
+pub extern "C" fn brundhal_version() -> u32
+    ensures { λ r. ⌜ r ≡ version ⌝ }
+{
+    limits::VERSION
+}
 
 // Inspects a mesh: `inspector::inspect`.
 #[no_mangle]

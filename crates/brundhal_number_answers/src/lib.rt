@@ -34,7 +34,7 @@ fn wide(x: BrundhalNumber) -> Wide
 }
 
 // A number that is handed back.
-fn words(x: Wide) -> BrundhalNumber
+pub fn words(x: Wide) -> BrundhalNumber
     ensures { λ r. ⌜ numberFields r ≡ numberWords (valueOf x) ⌝ }
 {
     BrundhalNumber {

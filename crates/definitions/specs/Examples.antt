@@ -8,13 +8,14 @@ use lib.Dec.{ltb}
 use lib.ListN.{getD, length, take, drop}
 use lib.IntN.{ℤ, pos, negsuc}
 use Rattle.foundation.specs.Lists.{All, concatMap, tabulate}
-use Rattle.definitions.specs.Limits.{base}
+use Rattle.definitions.specs.Limits.{base, recordWords}
+use Rattle.definitions.specs.TwoWords.{value}
 use Rattle.definitions.specs.Jacobian.{jacobian, scaledJacobian}
 use Rattle.definitions.specs.Coefficients.{numbered, numbers, at, coefficients}
 use Rattle.definitions.specs.Subdivision.{rows, halve, child, children, whole}
 use Rattle.definitions.specs.Verdict.{cornersOf, coefficientsOf, lowPoint, lowCoefficient, lastLevel, validLevel, verdict, openedBelow, openedCells, opened}
 use Rattle.definitions.specs.Bounds.{low, high}
-use Rattle.definitions.specs.Record.{words, recordOf}
+use Rattle.definitions.specs.Record.{words, valueHeld, recordOf}
 use Rattle.definitions.specs.Mesh.{refusal, missingIndex, namedTwice, pointsOf, outOfRange, faultOf, elementRecord, records, report, meshAccepted, meshRefused, badSpace, inspection, reportAfter, Stamp, sound, faulty, «open», stampOf, stampGiven, Bounds, bounds, boundsOf}
 
 -- A: the unit cube
@@ -45,13 +46,13 @@ wideTwist = negsuc 0 ∷ negsuc 0 ∷ pos 0 ∷ pos 1 ∷ negsuc 0 ∷ pos 0 ∷
 abbrev pub dented : List ℤ
 dented = pos 1 ∷ pos 1 ∷ pos 1 ∷ pos 3 ∷ pos 0 ∷ pos 0 ∷ pos 3 ∷ pos 3 ∷ pos 0 ∷ pos 0 ∷ pos 3 ∷ pos 0 ∷ pos 0 ∷ pos 0 ∷ pos 3 ∷ pos 3 ∷ pos 0 ∷ pos 3 ∷ pos 3 ∷ pos 3 ∷ pos 3 ∷ pos 0 ∷ pos 3 ∷ pos 3 ∷ []
 
--- H: the unit cube with node 3's y at 4,097
+-- H: the unit cube with node 3's y at 1,048,577
 abbrev pub tooFar : List ℤ
-tooFar = pos 0 ∷ pos 0 ∷ pos 0 ∷ pos 1 ∷ pos 0 ∷ pos 0 ∷ pos 1 ∷ pos 4097 ∷ pos 0 ∷ pos 0 ∷ pos 1 ∷ pos 0 ∷ pos 0 ∷ pos 0 ∷ pos 1 ∷ pos 1 ∷ pos 0 ∷ pos 1 ∷ pos 1 ∷ pos 1 ∷ pos 1 ∷ pos 0 ∷ pos 1 ∷ pos 1 ∷ []
+tooFar = pos 0 ∷ pos 0 ∷ pos 0 ∷ pos 1 ∷ pos 0 ∷ pos 0 ∷ pos 1 ∷ pos 1048577 ∷ pos 0 ∷ pos 0 ∷ pos 1 ∷ pos 0 ∷ pos 0 ∷ pos 0 ∷ pos 1 ∷ pos 1 ∷ pos 0 ∷ pos 1 ∷ pos 1 ∷ pos 1 ∷ pos 1 ∷ pos 0 ∷ pos 1 ∷ pos 1 ∷ []
 
--- H: the cube from −4,096 to 4,096
+-- H: the cube from −1,048,576 to 1,048,576
 abbrev pub largest : List ℤ
-largest = negsuc 4095 ∷ negsuc 4095 ∷ negsuc 4095 ∷ pos 4096 ∷ negsuc 4095 ∷ negsuc 4095 ∷ pos 4096 ∷ pos 4096 ∷ negsuc 4095 ∷ negsuc 4095 ∷ pos 4096 ∷ negsuc 4095 ∷ negsuc 4095 ∷ negsuc 4095 ∷ pos 4096 ∷ pos 4096 ∷ negsuc 4095 ∷ pos 4096 ∷ pos 4096 ∷ pos 4096 ∷ pos 4096 ∷ negsuc 4095 ∷ pos 4096 ∷ pos 4096 ∷ []
+largest = negsuc 1048575 ∷ negsuc 1048575 ∷ negsuc 1048575 ∷ pos 1048576 ∷ negsuc 1048575 ∷ negsuc 1048575 ∷ pos 1048576 ∷ pos 1048576 ∷ negsuc 1048575 ∷ negsuc 1048575 ∷ pos 1048576 ∷ negsuc 1048575 ∷ negsuc 1048575 ∷ negsuc 1048575 ∷ pos 1048576 ∷ pos 1048576 ∷ negsuc 1048575 ∷ pos 1048576 ∷ pos 1048576 ∷ pos 1048576 ∷ pos 1048576 ∷ negsuc 1048575 ∷ pos 1048576 ∷ pos 1048576 ∷ []
 
 -- the eight nodes in order, and with the fourth index past them
 abbrev pub inOrder : List ℕ
@@ -70,18 +71,18 @@ pub record Example : Type 0 where
 
 abbrev pub starred : List Example
 starred =
-    record { nodes = unitCube; indices = inOrder; depth = 0; answer = pos 0 ∷ pos 0 ∷ pos 0 ∷ pos 0 ∷ pos 0 ∷ pos 0 ∷ pos 0 ∷ pos 1 ∷ []; limits = none } ∷
-    record { nodes = onePoint; indices = inOrder; depth = 0; answer = pos 1 ∷ pos 0 ∷ pos 0 ∷ pos 0 ∷ pos 0 ∷ pos 1 ∷ pos 0 ∷ pos 1 ∷ []; limits = none } ∷
-    record { nodes = turned; indices = inOrder; depth = 0; answer = pos 1 ∷ pos 0 ∷ pos 0 ∷ pos 0 ∷ pos 0 ∷ pos 1 ∷ negsuc 7 ∷ pos 1 ∷ []; limits = none } ∷
-    record { nodes = quarterTwist; indices = inOrder; depth = 0; answer = pos 2 ∷ pos 0 ∷ pos 0 ∷ pos 0 ∷ pos 0 ∷ pos 13 ∷ pos 0 ∷ pos 1 ∷ []; limits = none } ∷
-    record { nodes = quarterTwist; indices = inOrder; depth = 1; answer = pos 0 ∷ pos 1 ∷ pos 0 ∷ pos 0 ∷ pos 0 ∷ pos 0 ∷ pos 0 ∷ pos 9 ∷ []; limits = some (bounds (pos 1024) (pos 1024)) } ∷
-    record { nodes = halfTwist; indices = inOrder; depth = 0; answer = pos 2 ∷ pos 0 ∷ pos 0 ∷ pos 0 ∷ pos 0 ∷ pos 13 ∷ negsuc 31 ∷ pos 1 ∷ []; limits = none } ∷
-    record { nodes = halfTwist; indices = inOrder; depth = 1; answer = pos 1 ∷ pos 1 ∷ pos 0 ∷ pos 0 ∷ pos 1 ∷ pos 5 ∷ pos 0 ∷ pos 2 ∷ []; limits = none } ∷
-    record { nodes = wideTwist; indices = inOrder; depth = 0; answer = pos 2 ∷ pos 0 ∷ pos 0 ∷ pos 0 ∷ pos 0 ∷ pos 13 ∷ negsuc 63 ∷ pos 1 ∷ []; limits = none } ∷
-    record { nodes = dented; indices = inOrder; depth = 0; answer = pos 1 ∷ pos 0 ∷ pos 0 ∷ pos 0 ∷ pos 0 ∷ pos 1 ∷ pos 0 ∷ pos 1 ∷ []; limits = none } ∷
-    record { nodes = tooFar; indices = inOrder; depth = 0; answer = pos 6 ∷ pos 3 ∷ pos 2 ∷ pos 0 ∷ pos 0 ∷ pos 0 ∷ pos 0 ∷ pos 0 ∷ []; limits = none } ∷
-    record { nodes = largest; indices = inOrder; depth = 0; answer = pos 0 ∷ pos 0 ∷ pos 0 ∷ pos 0 ∷ pos 0 ∷ pos 0 ∷ pos 0 ∷ pos 1 ∷ []; limits = none } ∷
-    record { nodes = unitCube; indices = missingFourth; depth = 0; answer = pos 5 ∷ pos 4 ∷ pos 8 ∷ pos 0 ∷ pos 0 ∷ pos 0 ∷ pos 0 ∷ pos 0 ∷ []; limits = none } ∷ []
+    record { nodes = unitCube; indices = inOrder; depth = 0; answer = pos 0 ∷ pos 0 ∷ pos 0 ∷ pos 0 ∷ pos 0 ∷ pos 0 ∷ pos 0 ∷ pos 0 ∷ pos 1 ∷ []; limits = none } ∷
+    record { nodes = onePoint; indices = inOrder; depth = 0; answer = pos 1 ∷ pos 0 ∷ pos 0 ∷ pos 0 ∷ pos 0 ∷ pos 1 ∷ pos 0 ∷ pos 0 ∷ pos 1 ∷ []; limits = none } ∷
+    record { nodes = turned; indices = inOrder; depth = 0; answer = pos 1 ∷ pos 0 ∷ pos 0 ∷ pos 0 ∷ pos 0 ∷ pos 1 ∷ negsuc 7 ∷ negsuc 0 ∷ pos 1 ∷ []; limits = none } ∷
+    record { nodes = quarterTwist; indices = inOrder; depth = 0; answer = pos 2 ∷ pos 0 ∷ pos 0 ∷ pos 0 ∷ pos 0 ∷ pos 13 ∷ pos 0 ∷ pos 0 ∷ pos 1 ∷ []; limits = none } ∷
+    record { nodes = quarterTwist; indices = inOrder; depth = 1; answer = pos 0 ∷ pos 1 ∷ pos 0 ∷ pos 0 ∷ pos 0 ∷ pos 0 ∷ pos 0 ∷ pos 0 ∷ pos 9 ∷ []; limits = some (bounds (pos 1024) (pos 1024)) } ∷
+    record { nodes = halfTwist; indices = inOrder; depth = 0; answer = pos 2 ∷ pos 0 ∷ pos 0 ∷ pos 0 ∷ pos 0 ∷ pos 13 ∷ negsuc 31 ∷ negsuc 0 ∷ pos 1 ∷ []; limits = none } ∷
+    record { nodes = halfTwist; indices = inOrder; depth = 1; answer = pos 1 ∷ pos 1 ∷ pos 0 ∷ pos 0 ∷ pos 1 ∷ pos 5 ∷ pos 0 ∷ pos 0 ∷ pos 2 ∷ []; limits = none } ∷
+    record { nodes = wideTwist; indices = inOrder; depth = 0; answer = pos 2 ∷ pos 0 ∷ pos 0 ∷ pos 0 ∷ pos 0 ∷ pos 13 ∷ negsuc 63 ∷ negsuc 0 ∷ pos 1 ∷ []; limits = none } ∷
+    record { nodes = dented; indices = inOrder; depth = 0; answer = pos 1 ∷ pos 0 ∷ pos 0 ∷ pos 0 ∷ pos 0 ∷ pos 1 ∷ pos 0 ∷ pos 0 ∷ pos 1 ∷ []; limits = none } ∷
+    record { nodes = tooFar; indices = inOrder; depth = 0; answer = pos 6 ∷ pos 3 ∷ pos 2 ∷ pos 0 ∷ pos 0 ∷ pos 0 ∷ pos 0 ∷ pos 0 ∷ pos 0 ∷ []; limits = none } ∷
+    record { nodes = largest; indices = inOrder; depth = 0; answer = pos 0 ∷ pos 0 ∷ pos 0 ∷ pos 0 ∷ pos 0 ∷ pos 0 ∷ pos 0 ∷ pos 0 ∷ pos 1 ∷ []; limits = none } ∷
+    record { nodes = unitCube; indices = missingFourth; depth = 0; answer = pos 5 ∷ pos 4 ∷ pos 8 ∷ pos 0 ∷ pos 0 ∷ pos 0 ∷ pos 0 ∷ pos 0 ∷ pos 0 ∷ []; limits = none } ∷ []
 
 -- The one claim.
 abbrev pub Bounded : List ℤ → ℕ → Option Bounds → Type 0
@@ -94,6 +95,26 @@ Holds e = (elementRecord base (e .nodes) (e .indices) (e .depth) ≡ e .answer) 
 pub starred-hold : All Holds starred
 unfolding jacobian scaledJacobian numbered at coefficients halve child children whole cornersOf coefficientsOf lowPoint lowCoefficient lastLevel validLevel verdict openedBelow openedCells opened low high recordOf missingIndex namedTwice pointsOf outOfRange faultOf elementRecord boundsOf
 starred-hold = ((refl, tt), ((refl, tt), ((refl, tt), ((refl, tt), ((refl, refl), ((refl, tt), ((refl, tt), ((refl, tt), ((refl, tt), ((refl, tt), ((refl, tt), ((refl, tt), tt))))))))))))
+
+-- ---- 02, No. 8: parts of which 64 bits do not hold a value, as a single list under the same claim
+-- the cube from −1,048,576 to 1,048,575, nodes 1-4 exchanged with 5-8
+abbrev pub largeTurned : List ℤ
+largeTurned = negsuc 1048575 ∷ negsuc 1048575 ∷ pos 1048575 ∷ pos 1048575 ∷ negsuc 1048575 ∷ pos 1048575 ∷ pos 1048575 ∷ pos 1048575 ∷ pos 1048575 ∷ negsuc 1048575 ∷ pos 1048575 ∷ pos 1048575 ∷ negsuc 1048575 ∷ negsuc 1048575 ∷ negsuc 1048575 ∷ pos 1048575 ∷ negsuc 1048575 ∷ negsuc 1048575 ∷ pos 1048575 ∷ pos 1048575 ∷ negsuc 1048575 ∷ negsuc 1048575 ∷ pos 1048575 ∷ negsuc 1048575 ∷ []
+
+-- its J, eight times, is −8 · 2,097,151³ = −4 · 2^64 + 105,553,065,934,856; that of the cube from −1,048,576 to 1,048,576 is 2^66
+abbrev pub large : List Example
+large =
+    record { nodes = largeTurned; indices = inOrder; depth = 0; answer = pos 1 ∷ pos 0 ∷ pos 0 ∷ pos 0 ∷ pos 0 ∷ pos 1 ∷ pos 105553065934856 ∷ negsuc 3 ∷ pos 1 ∷ []; limits = none } ∷
+    record { nodes = largest; indices = inOrder; depth = 0; answer = words 0 0 0 0 0 0 (pos 0) 1; limits = some (bounds (pos 73786976294838206464) (pos 73786976294838206464)) } ∷ []
+
+pub large-hold : All Holds large
+unfolding jacobian scaledJacobian numbered at coefficients halve child children whole cornersOf coefficientsOf lowPoint lowCoefficient lastLevel validLevel verdict openedBelow openedCells opened low high recordOf missingIndex namedTwice pointsOf outOfRange faultOf elementRecord boundsOf
+large-hold = ((refl, tt), ((refl, refl), tt))
+
+-- and read back
+pub large-read : valueHeld (elementRecord base largeTurned inOrder 0) ≡ negsuc 73786870741772271607
+unfolding value jacobian scaledJacobian numbered at coefficients halve child children whole cornersOf coefficientsOf lowPoint lowCoefficient lastLevel validLevel verdict openedBelow openedCells opened recordOf missingIndex namedTwice pointsOf outOfRange faultOf elementRecord
+large-read = refl
 
 -- ---- 02, No. 5: one index in two places, as a single list under the same claim
 -- index 1 in three places
@@ -149,23 +170,23 @@ every-pair = refl
 pub pairs-are-28 : length pairs ≡ 28
 pairs-are-28 = refl
 
--- ---- a mesh of two elements, the second with a missing node, and room for 16 words
+-- ---- a mesh of two elements, the second with a missing node, and room for 18 words
 abbrev pub twoElements : List ℕ
 twoElements = inOrder ++ missingFourth
 
 abbrev pub space : List ℤ
-space = pos 7 ∷ pos 7 ∷ pos 7 ∷ pos 7 ∷ pos 7 ∷ pos 7 ∷ pos 7 ∷ pos 7 ∷ pos 7 ∷ pos 7 ∷ pos 7 ∷ pos 7 ∷ pos 7 ∷ pos 7 ∷ pos 7 ∷ pos 7 ∷ []
+space = pos 7 ∷ pos 7 ∷ pos 7 ∷ pos 7 ∷ pos 7 ∷ pos 7 ∷ pos 7 ∷ pos 7 ∷ pos 7 ∷ pos 7 ∷ pos 7 ∷ pos 7 ∷ pos 7 ∷ pos 7 ∷ pos 7 ∷ pos 7 ∷ pos 7 ∷ pos 7 ∷ []
 
-pub mesh-report : reportAfter base unitCube twoElements space 0 ≡ pos 0 ∷ pos 0 ∷ pos 0 ∷ pos 0 ∷ pos 0 ∷ pos 0 ∷ pos 0 ∷ pos 1 ∷ pos 5 ∷ pos 4 ∷ pos 8 ∷ pos 0 ∷ pos 0 ∷ pos 0 ∷ pos 0 ∷ pos 0 ∷ []
+pub mesh-report : reportAfter base unitCube twoElements space 0 ≡ pos 0 ∷ pos 0 ∷ pos 0 ∷ pos 0 ∷ pos 0 ∷ pos 0 ∷ pos 0 ∷ pos 0 ∷ pos 1 ∷ pos 5 ∷ pos 4 ∷ pos 8 ∷ pos 0 ∷ pos 0 ∷ pos 0 ∷ pos 0 ∷ pos 0 ∷ pos 0 ∷ []
 unfolding jacobian scaledJacobian numbered at coefficients halve child children whole cornersOf coefficientsOf lowPoint lowCoefficient lastLevel validLevel verdict openedBelow openedCells opened recordOf missingIndex namedTwice pointsOf outOfRange faultOf elementRecord refusal records report reportAfter
 mesh-report = refl
 
-pub mesh-answer : inspection base unitCube twoElements 16 0 ≡ meshAccepted (record { valid = 1; invalid = 0; undecided = 0; refused = 1 })
+pub mesh-answer : inspection base unitCube twoElements 18 0 ≡ meshAccepted (record { valid = 1; invalid = 0; undecided = 0; refused = 1 })
 unfolding jacobian scaledJacobian numbered at coefficients halve child children whole cornersOf coefficientsOf lowPoint lowCoefficient lastLevel validLevel verdict openedBelow openedCells opened recordOf missingIndex namedTwice pointsOf outOfRange faultOf elementRecord refusal records inspection
 mesh-answer = refl
 
 -- one word short: refused with 4, the space as it was
-pub short-answer : inspection base unitCube twoElements 15 0 ≡ meshRefused badSpace
+pub short-answer : inspection base unitCube twoElements 17 0 ≡ meshRefused badSpace
 unfolding refusal inspection
 short-answer = refl
 
@@ -191,7 +212,7 @@ stamped =
     record { nodes = unitCube ++ turned; indices = inOrder ++ nextEight; stamp = faulty } ∷ []
 
 abbrev pub Stamped : Lot → Type 0
-Stamped t = (stampGiven (inspection base (t .nodes) (t .indices) (length (t .indices)) 0) ≡ some (t .stamp)) × (stampGiven (inspection base (t .nodes) (t .indices) (suc (length (t .indices))) 0) ≡ none)
+Stamped t = (stampGiven (inspection base (t .nodes) (t .indices) (recordWords * (length (t .indices) / 8)) 0) ≡ some (t .stamp)) × (stampGiven (inspection base (t .nodes) (t .indices) (suc (recordWords * (length (t .indices) / 8))) 0) ≡ none)
 
 pub stamped-hold : All Stamped stamped
 unfolding jacobian scaledJacobian numbered at coefficients halve child children whole cornersOf coefficientsOf lowPoint lowCoefficient lastLevel validLevel verdict openedBelow openedCells opened recordOf missingIndex namedTwice pointsOf outOfRange faultOf elementRecord refusal records inspection stampOf

@@ -10,10 +10,14 @@ pub record Limits : Type 0 where
   pub nodes : ℕ
   pub elements : ℕ
 
--- Document 01, "What the inspector takes".
+-- Document 01, "What the inspector takes", and 02, No. 8: "Raise coordinates to −1,048,576..1,048,576 and depth to 8".
 abbrev pub base : Limits
-base = record { range = 4096; depth = 3; nodes = 5000; elements = 1000 }
+base = record { range = 1048576; depth = 8; nodes = 5000; elements = 1000 }
 
--- the words of a record; request No. 8 of document 02 lengthens it
+-- 02, No. 8: "a record is nine words"
 abbrev pub recordWords : ℕ
-recordWords = 8
+recordWords = 9
+
+-- The version of what a caller sees: 1 had records of eight words. It rises with each change of a layout, a limit or an answer.
+abbrev pub version : ℕ
+version = 2

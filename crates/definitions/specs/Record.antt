@@ -1,22 +1,21 @@
--- Document 01, "What a record says".
+-- Document 01, "What a record says", and 02, No. 8, for the value and what stands behind it.
 use mathlib.Core.Bool.{Bool, false, _||_}
 use mathlib.Core.List.{List, [], _∷_, _++_}
 use Prim.Native.Nat.{ℕ}
 use lib.Dec.{eqb}
-use lib.ListN.{getD}
+use lib.ListN.{getD, drop}
 use lib.IntN.{ℤ, pos, negsuc}
+use Rattle.definitions.specs.TwoWords.{twoWords, fromTwoWords}
 use Rattle.definitions.specs.Verdict.{Finding, Verdict, valid, invalid, undecided, verdict, opened}
 
--- the words in which a whole number stands in a record
-abbrev pub valueWords : ℤ → List ℤ
-valueWords z = z ∷ []
-
--- a record: six words, those of a value, and the number of cubes opened
-abbrev pub wordsBy : (ℤ → List ℤ) → ℕ → ℕ → ℕ → ℕ → ℕ → ℕ → ℤ → ℕ → List ℤ
-wordsBy held w0 w1 w2 w3 w4 w5 value opened = pos w0 ∷ pos w1 ∷ pos w2 ∷ pos w3 ∷ pos w4 ∷ pos w5 ∷ (held value ++ (pos opened ∷ []))
-
+-- a record: six words, those of a value, and the number of cubes opened. 02, No. 8: "Word 6 becomes two words, low 64 bits and then high, as two's complement; the opened
+-- count moves to word 8"
 abbrev pub words : ℕ → ℕ → ℕ → ℕ → ℕ → ℕ → ℤ → ℕ → List ℤ
-words = wordsBy valueWords
+words w0 w1 w2 w3 w4 w5 value opened = pos w0 ∷ pos w1 ∷ pos w2 ∷ pos w3 ∷ pos w4 ∷ pos w5 ∷ (twoWords value ++ (pos opened ∷ []))
+
+-- and back: the value of a record
+abbrev pub valueHeld : List ℤ → ℤ
+valueHeld r = fromTwoWords (drop 6 r)
 
 abbrev pub kind : Verdict → ℕ
 kind (valid l) = 0
@@ -24,13 +23,10 @@ kind (invalid l f) = 1
 kind (undecided l f) = 2
 
 -- the columns "valid", "invalid" and "undecided", with the number of cubes opened
-abbrev pub verdictWordsBy : (ℤ → List ℤ) → Verdict → ℕ → List ℤ
-verdictWordsBy held (valid l) n = wordsBy held 0 l 0 0 0 0 (pos 0) n
-verdictWordsBy held (invalid l f) n = wordsBy held 1 l (f .a) (f .b) (f .c) (f .number) (f .value) n
-verdictWordsBy held (undecided l f) n = wordsBy held 2 l (f .a) (f .b) (f .c) (f .number) (f .value) n
-
 abbrev pub verdictWords : Verdict → ℕ → List ℤ
-verdictWords = verdictWordsBy valueWords
+verdictWords (valid l) n = words 0 l 0 0 0 0 (pos 0) n
+verdictWords (invalid l f) n = words 1 l (f .a) (f .b) (f .c) (f .number) (f .value) n
+verdictWords (undecided l f) n = words 2 l (f .a) (f .b) (f .c) (f .number) (f .value) n
 
 -- "Their record at a depth follows from the verdict by this table."
 unfoldable pub recordOf : List ℤ → ℕ → List ℤ

@@ -2,6 +2,7 @@
 use mathlib.Core.Bool.{Bool, _&&_}
 use mathlib.Core.List.{List, [], _∷_}
 use Prim.Native.Nat.{ℕ, suc, _*_, _-_, _/_, _%_, _^_}
+use lib.ListN.{getD}
 use lib.IntN.{ℤ, pos, negsuc, _+ℤ_, _*ℤ_}
 use lib.Signed.{leZ}
 use mir.Syntax.{Width, w64}
@@ -34,6 +35,10 @@ highWord z = remainder (wordBase * wordBase) z / wordBase
 -- both as a record has them, "low 64 bits and then high", each as a signed number
 abbrev pub twoWords : ℤ → List ℤ
 twoWords z = toZ w64 (lowWord z) ∷ toZ w64 (highWord z) ∷ []
+
+-- and back: the number of two words that a record has
+abbrev pub fromTwoWords : List ℤ → ℤ
+fromTwoWords ws = value (remainder wordBase (getD ws 0 (pos 0))) (remainder wordBase (getD ws 1 (pos 0)))
 
 -- whether one word, signed, holds a whole number: −2^63 to 2^63 − 1
 abbrev pub inOneWord : ℤ → Bool

@@ -1,10 +1,11 @@
--- Magnitudes of negatives, products and sums, and cancelling a factor above 0.
+-- Magnitudes of negatives, products and sums, a magnitude by two comparisons, and cancelling a factor above 0.
 use mathlib.Core.Path.{_≡_, refl, sym, _∙_, ap, ap₂}
-use mathlib.Core.Bool.{Bool, true, false, not, cond}
+use mathlib.Core.Bool.{Bool, true, false, not, cond, _&&_, and-true}
 use Prim.Native.Nat.{ℕ, zero, suc, _+_, _*_, _-_, _<_, _≤_}
 use native.Mathlib.Omega.{arith}
-use lib.Dec.{T, ltb, ltb→lt, nltb→le}
+use lib.Dec.{T, ltb, ltb→lt, nltb→le, leb, leb·suc-suc}
 use lib.IntN.{ℤ, pos, negsuc, negℤ, natAbs, subℕ, _+ℤ_, _-ℤ_, _*ℤ_, +ℤ-invr, negℤ-negℤ}
+use lib.Signed.{leZ}
 use Rattle.foundation.specs.Ring.{distrib-left, neg-unique, neg-mul-right}
 
 pub magnitude-neg : (a : ℤ) → natAbs (negℤ a) ≡ natAbs a
@@ -40,6 +41,11 @@ magnitude-add (negsuc a) (negsuc b) = omega arith
 pub magnitude-zero : (z : ℤ) → natAbs z ≡ 0 → z ≡ pos 0
 magnitude-zero (pos n) h = ap pos h
 magnitude-zero (negsuc n) h = absurd (omega arith)
+
+-- a number lies between −1 − n and 1 + n
+pub within-tests : (n : ℕ) (x : ℤ) → (leZ (negsuc n) x && leZ x (pos (suc n))) ≡ leb (natAbs x) (suc n)
+within-tests n (pos k) = refl
+within-tests n (negsuc k) = and-true (leb k n) ∙ sym (leb·suc-suc k n)
 
 -- a factor above 0 cancels: the difference times the factor is 0, and so is the difference
 pub cancel : (k : ℕ) (a b : ℤ) → pos (suc k) *ℤ a ≡ pos (suc k) *ℤ b → a ≡ b

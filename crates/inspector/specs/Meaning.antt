@@ -1,5 +1,6 @@
 -- What the inspector's answers stand for: document 01's numbers and values for each case.
 use Rattle.definitions.specs.Mesh.{depthTooGreat, badCoordinates, badIndices, badSpace, Inspection, meshAccepted, meshRefused, Bounds, bounds, tooDeep, outOfLimits}
+use Rattle.wide_number.specs.Meaning.{valueOf}
 use Rattle.inspection_counts.specs.Meaning.{countsHeld}
 use Rattle.inspector.specs.declared.Inspection.{Inspection as HeldInspection}
 use Rattle.inspector.specs.declared.Inspection.the-variants.{Accepted, DepthTooGreat, BadCoordinates, BadIndices, BadSpace}
@@ -14,6 +15,6 @@ inspectionHeld BadIndices = meshRefused badIndices
 inspectionHeld BadSpace = meshRefused badSpace
 
 abbrev pub boundsHeld : HeldBounds → Bounds
-boundsHeld (Both l h) = bounds l h
+boundsHeld (Both l h) = bounds (valueOf l) (valueOf h)
 boundsHeld TooDeep = tooDeep
 boundsHeld OutOfRange = outOfLimits

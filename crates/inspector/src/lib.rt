@@ -4,19 +4,15 @@
 //   bounds_of the low and the high bound of eight points at a depth; or the number that refuses them
 // The stamp of an accepted mesh, by its counts, is in the crate `inspection_counts`, the moves of cell addresses in `cell_address`.
 ghost use mathlib.Core.Path.{_≡_};
-ghost use Prim.Native.Nat.{_≤_};
 ghost use lib.ListN.{length};
 ghost use Rattle.definitions.specs.Limits.{base};
 ghost use Rattle.definitions.specs.Mesh.{inspection, reportAfter, boundsOf};
-ghost use Rattle.element_vectors.specs.Range.{InRange};
-ghost use Rattle.search_theory.specs.Bounds.{boundsAt};
-ghost use Rattle.narrow_bounds.specs.Meaning.{extremesOf};
 ghost use Rattle.inspector.specs.Meaning.{inspectionHeld, boundsHeld};
 use inspection_counts::Counts;
 use limits::MAX_DEPTH;
 use mesh_checks::Checked;
 use mesh_points::First;
-use narrow_bounds::Extremes;
+use wide_number::Wide;
 
 // The answer of an inspection: accepted, with the counts of valid, invalid, undecided and refused records; or why the mesh is refused.
 pub enum Inspection {
@@ -29,12 +25,12 @@ pub enum Inspection {
 
 // The answer of the bounds service: the low and the high bound, or why the points are refused.
 pub enum Bounds {
-    Both(i64, i64),
+    Both(Wide, Wide),
     TooDeep,
     OutOfRange,
 }
 
-// Inspects a mesh: three coordinates a node, eight indices an element, a depth, and report space of eight words an element.
+// Inspects a mesh: three coordinates a node, eight indices an element, a depth, and report space of nine words an element.
 pub fn inspect(coordinates: &[i32], indices: &[u32], depth: u32, report: &mut [i64]) -> Inspection
     ensures { λ r. ⌜ inspectionHeld r ≡ inspection base (now (coordinates .entry)) (now (indices .entry)) (length (now (report .entry))) depth ⌝ }
     ensures { λ r. ⌜ now (report .exit) ≡ reportAfter base (now (coordinates .entry)) (now (indices .entry)) (now (report .entry)) depth ⌝ }
@@ -54,16 +50,6 @@ pub fn inspect(coordinates: &[i32], indices: &[u32], depth: u32, report: &mut [i
     }
 }
 
-// Both bounds of points that are in range.
-fn points_bounds(p: &[i32; 24], depth: u32) -> Extremes
-    requires { ⌜ InRange (base .range) (now p) × (depth ≤ base .depth) ⌝ }
-    ensures { λ r. ⌜ extremesOf r ≡ boundsAt (now (p .entry)) depth ⌝ }
-{
-    let mut g = [0i64; 27];
-    narrow_coefficients::coefficients(p, &mut g);
-    narrow_bounds::bounds(&g, depth)
-}
-
 // The low and the high bound of eight points, x, y, z of each, at a depth.
 pub fn bounds_of(p: [i32; 24], depth: u32) -> Bounds
     ensures { λ r. ⌜ boundsHeld r ≡ boundsOf base p depth ⌝ }
@@ -75,7 +61,7 @@ pub fn bounds_of(p: [i32; 24], depth: u32) -> Bounds
     match first {
         First::At(k) => Bounds::OutOfRange,
         First::Nothing => {
-            let r = points_bounds(&p, depth);
+            let r = search_points::bounds(&p, depth);
             let low = r.low;
             let high = r.high;
             Bounds::Both(low, high)

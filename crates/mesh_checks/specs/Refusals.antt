@@ -36,7 +36,7 @@ refusalBy-none false true false d e = never e
 refusalBy-none false true true false e = never e
 refusalBy-none false true true true e = (refl, refl, refl, refl)
 
-well-sized : (n k most : ℕ) → wellSized n k most ≡ true → (n % k ≡ 0) × (n / k ≤ most)
+pub well-sized : (n k most : ℕ) → wellSized n k most ≡ true → (n % k ≡ 0) × (n / k ≤ most)
 well-sized n k most e =
     let parts = and-eq-true-iff (eqb (n % k) 0) (leb (n / k) most) .0 e in
     (eqb-true _ _ (parts .0), leb-true _ _ (parts .1))

@@ -4,21 +4,9 @@ ghost use mathlib.Core.Path.{_≡_};
 ghost use Prim.Native.Nat.{_≤_};
 ghost use lib.ListN.{length};
 ghost use Rattle.definitions.specs.Limits.{base};
-ghost use Rattle.definitions.specs.Record.{recordOf};
 ghost use Rattle.definitions.specs.Mesh.{elementRecord};
-ghost use Rattle.element_vectors.specs.Range.{InRange};
 use limits::RECORD_WORDS;
 use mesh_elements::Element;
-
-// The record of eight points that are all in range.
-fn points_record(p: &[i32; 24], depth: u32) -> [i64; RECORD_WORDS]
-    requires { ⌜ InRange (base .range) (now p) × (depth ≤ base .depth) ⌝ }
-    ensures { λ r. ⌜ r ≡ recordOf (now (p .entry)) depth ⌝ }
-{
-    let mut g = [0i64; 27];
-    narrow_coefficients::coefficients(p, &mut g);
-    narrow_search::record(&g, depth)
-}
 
 // The record of the element whose eight indices are lent.
 pub fn element(coordinates: &[i32], ix: &[u32], depth: u32) -> [i64; RECORD_WORDS]
@@ -28,7 +16,7 @@ pub fn element(coordinates: &[i32], ix: &[u32], depth: u32) -> [i64; RECORD_WORD
     let mut p = [0i32; 24];
     let fault = mesh_elements::fault(coordinates, ix, &mut p);
     match fault {
-        Element::Whole => points_record(&p, depth),
+        Element::Whole => search_points::record(&p, depth),
         Element::Missing(place, index) => mesh_elements::fault_words(fault),
         Element::Twice(lower, higher) => mesh_elements::fault_words(fault),
         Element::Outside(place, axis) => mesh_elements::fault_words(fault),

@@ -19,7 +19,7 @@ elementOf (Missing p i) = some (missing p i)
 elementOf (Twice p q) = some (twice p q)
 elementOf (Outside p e) = some (outside p e)
 
--- the record of a refused element, and eight zeros where nothing is at fault
+-- the record of a refused element, and nine zeros where nothing is at fault
 abbrev pub refusedWords : Option Fault → List ℤ
 refusedWords (some f) = faultWords f
 refusedWords none = words 0 0 0 0 0 0 (pos 0) 0

@@ -56,15 +56,15 @@ pub fn fault(coordinates: &[i32], ix: &[u32], p: &mut [i32; 24]) -> Element
 fn refusal_words(number: u32, first: u32, second: u32) -> [i64; RECORD_WORDS]
     ensures { λ r. ⌜ r ≡ words number first second 0 0 0 (pos 0) 0 ⌝ }
 {
-    [number as i64, first as i64, second as i64, 0, 0, 0, 0, 0]
+    [number as i64, first as i64, second as i64, 0, 0, 0, 0, 0, 0]
 }
 
-// The record of a refused element: why it is refused. Of a whole element eight zeros.
+// The record of a refused element: why it is refused. Of a whole element nine zeros.
 pub fn fault_words(f: Element) -> [i64; RECORD_WORDS]
     ensures { λ r. ⌜ r ≡ refusedWords (elementOf f) ⌝ }
 {
     match f {
-        Element::Whole => [0, 0, 0, 0, 0, 0, 0, 0],
+        Element::Whole => [0, 0, 0, 0, 0, 0, 0, 0, 0],
         Element::Missing(place, index) => refusal_words(5, place, index),
         Element::Twice(lower, higher) => refusal_words(7, lower, higher),
         Element::Outside(place, axis) => refusal_words(6, place, axis),

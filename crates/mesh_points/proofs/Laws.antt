@@ -1,22 +1,17 @@
 -- The tests that the code makes against those of the definitions, and a store that fills a list from the front. Assumes nothing.
-use mathlib.Core.Path.{_≡_, refl, sym, _∙_, subst}
-use mathlib.Core.Bool.{_&&_, and-true}
+use mathlib.Core.Path.{_≡_, sym, _∙_, subst}
+use mathlib.Core.Bool.{_&&_}
 use mathlib.Core.List.{List}
-use Prim.Native.Nat.{ℕ, suc, _+_, _-_, _<_}
+use Prim.Native.Nat.{ℕ, _+_, _-_, _<_}
 use native.Mathlib.Omega.{arith}
 use native.Mathlib.Decide.{ℕ-discrete}
-use lib.Dec.{leb, leb·suc-suc}
 use lib.ListN.{getD, length, set, length-set}
 use lib.Seq.{getD-set-same, getD-set-other}
-use lib.IntN.{ℤ, pos, negsuc, natAbs}
+use lib.IntN.{ℤ, pos, negsuc}
 use lib.Signed.{leZ}
+use Rattle.foundation.specs.Magnitude.{within-tests}
 use Rattle.definitions.specs.Limits.{base}
 use Rattle.definitions.specs.Mesh.{usable}
-
--- a number lies between −1 − n and 1 + n
-within-tests : (n : ℕ) (x : ℤ) → (leZ (negsuc n) x && leZ x (pos (suc n))) ≡ leb (natAbs x) (suc n)
-within-tests n (pos k) = refl
-within-tests n (negsuc k) = and-true (leb k n) ∙ sym (leb·suc-suc k n)
 
 pub usable-tests : (x : ℤ) → (leZ (negsuc (base .range - 1)) x && leZ x (pos (base .range))) ≡ usable base x
 usable-tests x = within-tests (base .range - 1) x

@@ -4,10 +4,11 @@ ghost use mathlib.Core.Path.{_≡_};
 ghost use mathlib.Core.List.{List};
 ghost use Prim.Native.Nat.{_^_, _≤_};
 ghost use lib.IntN.{ℤ};
+ghost use Rattle.definitions.specs.Limits.{base};
 ghost use Rattle.definitions.specs.Coefficients.{coefficients};
 ghost use Rattle.definitions.specs.Record.{recordOf};
 ghost use Rattle.verdict_theory.specs.Search.{Pass, visit as visited};
-ghost use Rattle.search_theory.specs.Meaning.{cellOf, Small, deepest, Room, Held};
+ghost use Rattle.search_theory.specs.Meaning.{cellOf, Small, Room, Held};
 ghost use Rattle.search_theory.specs.Levels.{wholeOf, fresh};
 ghost use Rattle.narrow_rows.specs.Word.{largest};
 ghost use Rattle.search_pass.specs.Meaning.{passWords};
@@ -59,7 +60,7 @@ fn visit(g: &[i64; 27], a: u32, b: u32, c: u32, left: u32, pass: &mut [i64; PASS
 
 // The pass of a level over the whole element, after a pass of which the count of cells stays.
 fn pass_at(g: &[i64; 27], level: u32, pass: &mut [i64; PASS_WORDS])
-    requires { ⌜ Small largest (now g) level × (level ≤ deepest) × Held passWords (8 ^ level) (now pass) ⌝ }
+    requires { ⌜ Small largest (now g) level × (level ≤ base .depth) × Held passWords (8 ^ level) (now pass) ⌝ }
     ensures { λ _. ⌜ ((p : Pass) → now (pass .entry) ≡ passWords p → now (pass .exit) ≡ passWords (visited level (wholeOf (now (g .entry))) (fresh (p .count)))) ⌝ }
 {
     search_pass::note(0, 0, 0, 0, 0, Wide::from_i64(0), pass);
@@ -68,7 +69,7 @@ fn pass_at(g: &[i64; 27], level: u32, pass: &mut [i64; PASS_WORDS])
 
 // The record of the eight points with these coefficients: a pass of level 0, 1, .. while only low coefficients are found.
 pub fn record(g: &[i64; 27], depth: u32) -> [i64; RECORD_WORDS]
-    requires { ⌜ Small largest (now g) depth × (depth ≤ deepest) ⌝ }
+    requires { ⌜ Small largest (now g) depth × (depth ≤ base .depth) ⌝ }
     ensures { λ w. ⌜ ((xs : List ℤ) → now (g .entry) ≡ coefficients xs → w ≡ recordOf xs depth) ⌝ }
 {
     let mut m: u32 = 0;
@@ -78,5 +79,5 @@ pub fn record(g: &[i64; 27], depth: u32) -> [i64; RECORD_WORDS]
         m += 1;
         pass_at(g, m, &mut r);
     }
-    search_pass::settled_in_one_word(m, &r)
+    search_pass::settled(m, &r)
 }

@@ -1,6 +1,10 @@
-// Inspects the worked elements of the scope document, and one that names a node three times, and prints their records and bounds at every depth.
+// Inspects the worked elements of the scope document, one that names a node three times and two as large as they can be, and prints their records at every depth, and
+// their bounds where these are worked in no time: to depth 5, and of case F to depth 8.
 use inspector::Bounds;
+use limits::MAX_DEPTH;
 use limits::RECORD_WORDS;
+use wide_number::Single;
+use wide_number::Wide;
 
 const UNIT_CUBE: [i32; 24] = [
     0,
@@ -62,14 +66,29 @@ fn print_kind(kind: i64) {
     io::write_all(1, b"   refused");
 }
 
+// A number of two words: as one number where one word holds it, else by both words.
+fn print_wide(x: Wide) {
+    let held = x.to_i64();
+    match held {
+        Single::Number(number) => {
+            print_signed(number);
+        }
+        Single::TooLong => {
+            print_signed(wide_number::signed(x.high));
+            io::write_all(1, b" * 2^64 + ");
+            io::print_decimal(1, x.low);
+        }
+    }
+}
+
 fn print_bounds(points: [i32; 24], depth: u32) {
     let answer = inspector::bounds_of(points, depth);
     match answer {
         Bounds::Both(low, high) => {
             io::write_all(1, b", bounds ");
-            print_signed(low);
+            print_wide(low);
             io::write_all(1, b" and ");
-            print_signed(high);
+            print_wide(high);
         }
         Bounds::TooDeep => {
             io::write_all(1, b", bounds refused: 1");
@@ -80,8 +99,8 @@ fn print_bounds(points: [i32; 24], depth: u32) {
     }
 }
 
-// One element at one depth.
-fn print_line(points: [i32; 24], indices: [u32; 8], depth: u32) {
+// One element at one depth, with its bounds or without.
+fn print_line(points: [i32; 24], indices: [u32; 8], depth: u32, with_bounds: bool) {
     let mut report = [0i64; RECORD_WORDS];
     inspector::inspect(&points, &indices, depth, &mut report);
     io::write_all(1, b"   depth ");
@@ -90,23 +109,25 @@ fn print_line(points: [i32; 24], indices: [u32; 8], depth: u32) {
     print_record(report);
     let kind = report[0];
     print_kind(kind);
-    print_bounds(points, depth);
+    if with_bounds {
+        print_bounds(points, depth);
+    }
     io::write_all(1, b"\n");
 }
 
-fn print_element(name: &[u8], points: [i32; 24], indices: [u32; 8]) {
+// One element at every depth, with its bounds to the depth given.
+fn print_element(name: &[u8], points: [i32; 24], indices: [u32; 8], bounds_to: u32) {
     io::write_all(1, name);
     io::write_all(1, b"\n");
-    print_line(points, indices, 0);
-    print_line(points, indices, 1);
-    print_line(points, indices, 2);
-    print_line(points, indices, 3);
+    for depth in 0..MAX_DEPTH + 1 {
+        print_line(points, indices, depth, depth <= bounds_to);
+    }
 }
 
 fn main() {
     io::write_all(
         1,
-        b"Each record has eight words: kind (0 valid, 1 invalid, 2 undecided, 5 to 7 refused); level, or place of the fault;\n",
+        b"Each record has nine words: kind (0 valid, 1 invalid, 2 undecided, 5 to 7 refused); level, or place of the fault;\n",
     );
     io::write_all(
         1,
@@ -114,9 +135,9 @@ fn main() {
     );
     io::write_all(
         1,
-        b"times 8 * 64^level; cells opened. Both bounds are times 8 * 64^depth.\n\n",
+        b"times 8 * 64^level, low word and high word; cells opened. Both bounds are times 8 * 64^depth.\n\n",
     );
-    print_element(b"A  unit cube", UNIT_CUBE, [0, 1, 2, 3, 4, 5, 6, 7]);
+    print_element(b"A  unit cube", UNIT_CUBE, [0, 1, 2, 3, 4, 5, 6, 7], 5);
     print_element(
         b"B  all eight nodes at one point",
         [
@@ -146,6 +167,7 @@ fn main() {
             5,
         ],
         [0, 1, 2, 3, 4, 5, 6, 7],
+        5,
     );
     print_element(
         b"C  unit cube, nodes 1-4 exchanged with 5-8",
@@ -176,6 +198,7 @@ fn main() {
             0,
         ],
         [0, 1, 2, 3, 4, 5, 6, 7],
+        5,
     );
     print_element(
         b"D  flat square, top turned by a quarter",
@@ -206,6 +229,7 @@ fn main() {
             1,
         ],
         [0, 1, 2, 3, 4, 5, 6, 7],
+        5,
     );
     print_element(
         b"E  flat square, top turned by a half",
@@ -236,6 +260,7 @@ fn main() {
             1,
         ],
         [0, 1, 2, 3, 4, 5, 6, 7],
+        5,
     );
     print_element(
         b"F  as E, the top twice as wide",
@@ -266,6 +291,7 @@ fn main() {
             1,
         ],
         [0, 1, 2, 3, 4, 5, 6, 7],
+        8,
     );
     print_element(
         b"G  cube of side 3 with node 1 at (1,1,1)",
@@ -296,9 +322,10 @@ fn main() {
             3,
         ],
         [0, 1, 2, 3, 4, 5, 6, 7],
+        5,
     );
     print_element(
-        b"H  unit cube with node 3's y at 4,097",
+        b"H  unit cube with node 3's y at 1,048,577",
         [
             0,
             0,
@@ -307,7 +334,7 @@ fn main() {
             0,
             0,
             1,
-            4097,
+            1048577,
             0,
             0,
             1,
@@ -326,45 +353,111 @@ fn main() {
             1,
         ],
         [0, 1, 2, 3, 4, 5, 6, 7],
+        5,
     );
     print_element(
-        b"   cube from -4,096 to 4,096",
+        b"   cube from -1,048,576 to 1,048,576",
         [
-            -4096,
-            -4096,
-            -4096,
-            4096,
-            -4096,
-            -4096,
-            4096,
-            4096,
-            -4096,
-            -4096,
-            4096,
-            -4096,
-            -4096,
-            -4096,
-            4096,
-            4096,
-            -4096,
-            4096,
-            4096,
-            4096,
-            4096,
-            -4096,
-            4096,
-            4096,
+            -1048576,
+            -1048576,
+            -1048576,
+            1048576,
+            -1048576,
+            -1048576,
+            1048576,
+            1048576,
+            -1048576,
+            -1048576,
+            1048576,
+            -1048576,
+            -1048576,
+            -1048576,
+            1048576,
+            1048576,
+            -1048576,
+            1048576,
+            1048576,
+            1048576,
+            1048576,
+            -1048576,
+            1048576,
+            1048576,
         ],
         [0, 1, 2, 3, 4, 5, 6, 7],
+        5,
     );
     print_element(
         b"I  unit cube with its fourth index 8",
         UNIT_CUBE,
         [0, 1, 2, 8, 4, 5, 6, 7],
+        5,
     );
     print_element(
         b"No. 5 of 02: unit cube with index 1 in places 2, 4 and 6; the bounds are of its eight nodes in order",
         UNIT_CUBE,
         [0, 1, 2, 1, 4, 1, 6, 7],
+        5,
+    );
+    print_element(
+        b"cube from -1,048,576 to 1,048,575, nodes 1-4 exchanged with 5-8",
+        [
+            -1048576,
+            -1048576,
+            1048575,
+            1048575,
+            -1048576,
+            1048575,
+            1048575,
+            1048575,
+            1048575,
+            -1048576,
+            1048575,
+            1048575,
+            -1048576,
+            -1048576,
+            -1048576,
+            1048575,
+            -1048576,
+            -1048576,
+            1048575,
+            1048575,
+            -1048576,
+            -1048576,
+            1048575,
+            -1048576,
+        ],
+        [0, 1, 2, 3, 4, 5, 6, 7],
+        5,
+    );
+    print_element(
+        b"F as large as it can be",
+        [
+            -524288,
+            -524288,
+            0,
+            524288,
+            -524288,
+            0,
+            524288,
+            524288,
+            0,
+            -524288,
+            524288,
+            0,
+            1048576,
+            1048576,
+            524288,
+            -1048576,
+            1048576,
+            524288,
+            -1048576,
+            -1048576,
+            524288,
+            1048576,
+            -1048576,
+            524288,
+        ],
+        [0, 1, 2, 3, 4, 5, 6, 7],
+        5,
     );
 }

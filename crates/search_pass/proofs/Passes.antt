@@ -6,14 +6,11 @@ use lib.Dec.{eqb}
 use lib.ListN.{getD, set}
 use lib.IntN.{ℤ, pos}
 use mir.Syntax.{w64}
-use mir.Val.{SFits, toZ, ofZ}
+use mir.Val.{toZ, ofZ}
 use Rattle.definitions.specs.TwoWords.{lowWord, highWord}
-use Rattle.definitions.specs.Verdict.{Verdict}
-use Rattle.definitions.specs.Record.{words, verdictWords}
-use Rattle.wrapping_theory.specs.Single.{low-word-single}
-use Rattle.verdict_theory.specs.Named.{Names}
+use Rattle.definitions.specs.Record.{verdictWords}
 use Rattle.verdict_theory.specs.Search.{Found, nothing, coefficient, point, Pass, ended}
-use Rattle.search_pass.specs.Meaning.{layout, foundWords, passWords, wideVerdictWords}
+use Rattle.search_pass.specs.Meaning.{layout, foundWords, passWords}
 use Rattle.search_theory.specs.Levels.{isBlocked, outcome}
 
 -- word 0
@@ -66,25 +63,10 @@ noted ws p k a b c n z e = ap (λ (l : List ℤ). put l (pos k) (pos a) (pos b) 
 abbrev pub withLevel : ℕ → List ℤ → List ℤ
 withLevel l ws = getD ws 0 (pos 0) ∷ pos l ∷ getD ws 1 (pos 0) ∷ getD ws 2 (pos 0) ∷ getD ws 3 (pos 0) ∷ getD ws 4 (pos 0) ∷ getD ws 5 (pos 0) ∷ getD ws 6 (pos 0) ∷ getD ws 7 (pos 0) ∷ []
 
-level-put : (o : Found) (n l : ℕ) → withLevel l (foundWords o n) ≡ wideVerdictWords (outcome l o) n
+level-put : (o : Found) (n l : ℕ) → withLevel l (foundWords o n) ≡ verdictWords (outcome l o) n
 level-put nothing n l = refl
 level-put (coefficient f) n l = refl
 level-put (point f) n l = refl
 
-pub settled-words : (ws : List ℤ) (p : Pass) (l : ℕ) → ws ≡ passWords p → withLevel l ws ≡ wideVerdictWords (outcome l (p .found)) (p .count)
+pub settled-words : (ws : List ℤ) (p : Pass) (l : ℕ) → ws ≡ passWords p → withLevel l ws ≡ verdictWords (outcome l (p .found)) (p .count)
 settled-words ws p l e = ap (withLevel l) e ∙ level-put (p .found) (p .count) l
-
--- the same without the high word of a value that one word holds
-abbrev pub withLevelInOneWord : ℕ → List ℤ → List ℤ
-withLevelInOneWord l ws = getD ws 0 (pos 0) ∷ pos l ∷ getD ws 1 (pos 0) ∷ getD ws 2 (pos 0) ∷ getD ws 3 (pos 0) ∷ getD ws 4 (pos 0) ∷ getD ws 5 (pos 0) ∷ getD ws 7 (pos 0) ∷ []
-
-abbrev Fits : Verdict → Type 0
-Fits v = Names (λ f. SFits w64 (f .value)) v
-
-level-put-in-one : (o : Found) (n l : ℕ) → Fits (outcome l o) → withLevelInOneWord l (foundWords o n) ≡ verdictWords (outcome l o) n
-level-put-in-one nothing n l h = refl
-level-put-in-one (coefficient f) n l h = ap (λ (z : ℤ). words 2 l (f .a) (f .b) (f .c) (f .number) z n) (low-word-single (f .value) h)
-level-put-in-one (point f) n l h = ap (λ (z : ℤ). words 1 l (f .a) (f .b) (f .c) (f .number) z n) (low-word-single (f .value) h)
-
-pub settled-in-one : (ws : List ℤ) (p : Pass) (l : ℕ) → ws ≡ passWords p → Fits (outcome l (p .found)) → withLevelInOneWord l ws ≡ verdictWords (outcome l (p .found)) (p .count)
-settled-in-one ws p l e h = ap (withLevelInOneWord l) e ∙ level-put-in-one (p .found) (p .count) l h

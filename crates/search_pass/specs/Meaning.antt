@@ -3,8 +3,6 @@ use mathlib.Core.List.{List, [], _∷_, _++_}
 use Prim.Native.Nat.{ℕ}
 use lib.IntN.{ℤ, pos}
 use Rattle.definitions.specs.TwoWords.{twoWords}
-use Rattle.definitions.specs.Record.{verdictWordsBy}
-use Rattle.definitions.specs.Verdict.{Verdict, verdict, opened}
 use Rattle.verdict_theory.specs.Search.{Found, nothing, coefficient, point, Pass}
 
 -- A pass is eight words: what was found (0 nothing, 1 a low corner, 2 a low coefficient), its grid numbers, its number, its value, low word and high word, and how many cells were opened.
@@ -18,10 +16,3 @@ foundWords (point f) n = layout 1 (f .a) (f .b) (f .c) (f .number) (f .value) n
 
 abbrev pub passWords : Pass → List ℤ
 passWords p = foundWords (p .found) (p .count)
-
--- a record whose value is in two words
-abbrev pub wideVerdictWords : Verdict → ℕ → List ℤ
-wideVerdictWords = verdictWordsBy twoWords
-
-unfoldable pub wideRecordOf : List ℤ → ℕ → List ℤ
-wideRecordOf xs D = wideVerdictWords (verdict xs D) (opened xs D)

@@ -1,18 +1,14 @@
 // A pass of the search: what it found and how many cells it opened, in eight words that are lent and changed where they lie; a value is in
 // two of them. An inner crate, for `search_opening` and the two searches.
 ghost use mathlib.Core.Path.{_≡_};
-ghost use mir.Syntax.{w64};
-ghost use mir.Val.{SFits};
 ghost use Rattle.definitions.specs.Record.{verdictWords};
-ghost use Rattle.verdict_theory.specs.Named.{Names};
 ghost use Rattle.verdict_theory.specs.Search.{Pass, ended as hasEnded};
 ghost use Rattle.verdict_theory.specs.Clear.{more};
 ghost use Rattle.search_theory.specs.Meaning.{Held};
 ghost use Rattle.search_theory.specs.Levels.{isBlocked, outcome};
 ghost use Rattle.wide_number.specs.Meaning.{valueOf};
-ghost use Rattle.search_pass.specs.Meaning.{layout, passWords, wideVerdictWords};
+ghost use Rattle.search_pass.specs.Meaning.{layout, passWords};
 use limits::RECORD_WORDS;
-use limits::WIDE_RECORD_WORDS;
 use wide_number::Wide;
 
 // The words of a pass: what was found (0 nothing, 1 a low corner, 2 a low coefficient), its grid numbers, its number, its value, low word
@@ -68,8 +64,8 @@ pub fn blocked(pass: &[i64; PASS_WORDS]) -> bool
 }
 
 // The record that the last pass, that of a level, comes to.
-pub fn settled(level: u32, pass: &[i64; PASS_WORDS]) -> [i64; WIDE_RECORD_WORDS]
-    ensures { λ w. ⌜ ((p : Pass) → now (pass .entry) ≡ passWords p → w ≡ wideVerdictWords (outcome level (p .found)) (p .count)) ⌝ }
+pub fn settled(level: u32, pass: &[i64; PASS_WORDS]) -> [i64; RECORD_WORDS]
+    ensures { λ w. ⌜ ((p : Pass) → now (pass .entry) ≡ passWords p → w ≡ verdictWords (outcome level (p .found)) (p .count)) ⌝ }
 {
     let kind = pass[0];
     let a = pass[1];
@@ -80,18 +76,4 @@ pub fn settled(level: u32, pass: &[i64; PASS_WORDS]) -> [i64; WIDE_RECORD_WORDS]
     let high = pass[6];
     let count = pass[7];
     [kind, level as i64, a, b, c, number, low, high, count]
-}
-
-// The same with the value in one word, of a pass whose value one word holds.
-pub fn settled_in_one_word(level: u32, pass: &[i64; PASS_WORDS]) -> [i64; RECORD_WORDS]
-    ensures { λ w. ⌜ ((p : Pass) → now (pass .entry) ≡ passWords p → Names (λ f. SFits w64 (f .value)) (outcome level (p .found)) → w ≡ verdictWords (outcome level (p .found)) (p .count)) ⌝ }
-{
-    let kind = pass[0];
-    let a = pass[1];
-    let b = pass[2];
-    let c = pass[3];
-    let number = pass[4];
-    let low = pass[5];
-    let count = pass[7];
-    [kind, level as i64, a, b, c, number, low, count]
 }

@@ -7,6 +7,7 @@ use native.Mathlib.Nat.{le-trans, mul-le-mul-left, pow-le-pow-right, zero-lt-suc
 use native.Mathlib.Omega.{arith}
 use lib.IntN.{ℤ, natAbs}
 use Rattle.foundation.specs.Lists.{All, all-map, up}
+use Rattle.definitions.specs.Limits.{base}
 use Rattle.definitions.specs.Coefficients.{coefficients}
 use Rattle.definitions.specs.Subdivision.{Cell, whole, cells}
 use Rattle.expansion_theory.specs.Size.{cells-size}
@@ -15,7 +16,7 @@ use Rattle.definitions.specs.Verdict.{Verdict, valid, invalid, undecided, verdi
 use Rattle.verdict_theory.specs.Search.{Found, nothing, coefficient, point, Pass, pass, visit}
 use Rattle.verdict_theory.specs.Opened.{most}
 use Rattle.verdict_theory.specs.Passes.{Before, before-first, pass-point, pass-nothing, pass-last, pass-on}
-use Rattle.search_theory.specs.Meaning.{cellOf, Small, deepest, countRoom, Grid, Room, Held}
+use Rattle.search_theory.specs.Meaning.{cellOf, Small, countRoom, Grid, Room, Held}
 use Rattle.search_theory.specs.Visit.{visit-count}
 
 abbrev pub wholeOf : List ℤ → Cell
@@ -88,16 +89,16 @@ most-next m = let p : m + 1 ≡ suc m = omega arith in ap most p ∙ ap (λ (n :
 most-room : (m c c′ : ℕ) → c ≤ most m → c′ ≤ c + 8 ^ (m + 1) → c′ ≤ most (m + 1)
 most-room m c c′ h k = omega (arith, most-next m)
 
-pub most-less : (m : ℕ) → m ≤ deepest → most m ≤ most deepest
-most-less m h = up (λ k. most m ≤ most k) (λ k q. omega arith) m deepest h (omega arith)
+pub most-less : (m : ℕ) → m ≤ base .depth → most m ≤ most (base .depth)
+most-less m h = up (λ k. most m ≤ most k) (λ k q. omega arith) m (base .depth) h (omega arith)
 
-count-room : (m c : ℕ) → m < deepest → c ≤ most m → c + 8 ^ (m + 1) < countRoom
-count-room m c h k = let l : m + 1 ≤ deepest = omega arith in let p : 8 ^ (m + 1) ≤ 8 ^ deepest = pow-le-pow-right (zero-lt-suc 7) l in omega (arith, most-less m (omega arith))
+count-room : (m c : ℕ) → m < base .depth → c ≤ most m → c + 8 ^ (m + 1) < countRoom
+count-room m c h k = let l : m + 1 ≤ base .depth = omega arith in let p : 8 ^ (m + 1) ≤ 8 ^ base .depth = pow-le-pow-right (zero-lt-suc 7) l in omega (arith, most-less m (omega arith))
 
 -- ---- the whole element has room for every level
-pub whole-room : (top : ℕ) (g : List ℤ) (level : ℕ) → Small top g level → level ≤ deepest → Room top g 0 0 0 level
+pub whole-room : (top : ℕ) (g : List ℤ) (level : ℕ) → Small top g level → level ≤ base .depth → Room top g 0 0 0 level
 whole-room top g level small h =
-    let p : 2 ^ level ≤ 2 ^ deepest = pow-le-pow-right (zero-lt-suc 1) h in
+    let p : 2 ^ level ≤ 2 ^ base .depth = pow-le-pow-right (zero-lt-suc 1) h in
     let grid : Grid 0 level = omega arith in
     record { small = small; a-grid = grid; b-grid = grid; c-grid = grid }
 
@@ -124,5 +125,5 @@ module _ {A : Type 0} (words : Pass → A) where
       at = λ xs h. at-next xs g h m (made .pass) r (made .at xs h) b refl;
     }
 
-    pub made-room : (m : ℕ) (ws : A) → m < deepest → Made g m ws → Held words (8 ^ (m + 1)) ws
+    pub made-room : (m : ℕ) (ws : A) → m < base .depth → Made g m ws → Held words (8 ^ (m + 1)) ws
     made-room m ws h made = record { pass = made .pass; is = made .is; room = count-room m (made .pass .count) h (made .few) }

@@ -30,10 +30,7 @@ pub record Small (top : ℕ) (g : List ℤ) (left : ℕ) : Type 0 where
   pub control : Control bound g
   pub small : bound * 64 ^ left ≤ top
 
--- the greatest depth that a search is made for (document 02, No. 8), and what grid numbers of its levels and counts of its cells stay below
-abbrev pub deepest : ℕ
-deepest = 8
-
+-- what grid numbers and counts of cells stay below
 abbrev pub gridRoom : ℕ
 gridRoom = 2 ^ 31
 

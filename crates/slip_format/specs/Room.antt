@@ -55,14 +55,14 @@ held-words : (ws : List ℤ) → All Held ws → All (λ w. length w ≤ 20) (ma
 held-words ws h = all-image (λ w. length w ≤ 20) signedDecimal ws (all-map Held (λ z. length (signedDecimal z) ≤ 20) signed-length ws h)
 
 module _ (label : List ℕ) (gs : List Group) (short : Short label) (shorts : All (λ g. Short (g .name)) gs) where
-  pub element-line-length : (e : ℕ) (ws : List ℤ) → e < slipLimits .elements → length ws ≤ recordWords → All Held ws → length (elementLine label gs e ws) ≤ 206
-  element-line-length e ws few eight h =
+  pub element-line-length : (e : ℕ) (ws : List ℤ) → e < slipLimits .elements → length ws ≤ recordWords → All Held ws → length (elementLine label gs e ws) ≤ 227
+  element-line-length e ws few nine h =
       let number = decimal-short (suc e) (omega arith) in
       let name = name-short label gs e short shorts in
       let words = words-length 20 (map signedDecimal ws) (held-words ws h) in
       simp length-append (omega (arith, length-map ws signedDecimal))
 
-  pub element-lines-length : (e n : ℕ) (ws : List ℤ) → e + n ≤ slipLimits .elements → All Held ws → length (elementLines label gs recordWords e n ws) ≤ 206 * n
+  pub element-lines-length : (e n : ℕ) (ws : List ℤ) → e + n ≤ slipLimits .elements → All Held ws → length (elementLines label gs recordWords e n ws) ≤ 227 * n
   element-lines-length e zero ws few h = omega arith
   element-lines-length e (suc n) ws few h =
       let both : All Held (take recordWords ws ++ drop recordWords ws) = subst (All Held) (sym (take-append-drop recordWords ws)) h in

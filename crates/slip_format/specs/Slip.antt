@@ -1,4 +1,4 @@
--- Document 02, No. 2: the printed slip of a lot.
+-- Document 02, No. 2 and No. 8: the printed slip of a lot.
 use mathlib.Core.Bool.{Bool, true, false}
 use mathlib.Core.List.{List, [], _∷_, _++_, map}
 use Prim.Native.Nat.{ℕ, zero, suc, _*_, _/_}
@@ -6,7 +6,7 @@ use lib.Dec.{leb}
 use lib.ListN.{length, take, drop}
 use lib.IntN.{ℤ}
 use Rattle.foundation.specs.Lists.{concatMap}
-use Rattle.definitions.specs.Limits.{Limits, base, recordWords}
+use Rattle.definitions.specs.Limits.{Limits, recordWords}
 use Rattle.definitions.specs.Mesh.{Counts, meshAccepted, meshRefused, inspection, report, Stamp, sound, faulty, «open», stampOf, meshRefusalNumber}
 use Rattle.lot_format.specs.Format.{FileLimits, Lot, Group}
 use Rattle.lot_format.specs.Reading.{unreadableNumber, tooManyElements, readable, unreadable, readLot}
@@ -18,9 +18,9 @@ pub record SlipLimits : Type 0 where
   pub depth : ℕ
   pub elements : ℕ
 
--- "inspects at depth 3 and prints": as many elements as a lot has
+-- "inspects at depth 3 and prints"; No. 8: "a program holding a report keeps to 900 elements"
 abbrev pub slipLimits : SlipLimits
-slipLimits = record { depth = 3; elements = base .elements }
+slipLimits = record { depth = 3; elements = 900 }
 
 -- the bytes in which every slip has room
 abbrev pub slipBytes : ℕ
@@ -78,7 +78,7 @@ meshSlip L D lot = elim (inspection L (lot .nodes) (lot .elements) (recordWords 
   | meshAccepted n ↦ inspectedSlip (lot .label) (lot .groups) recordWords (length (lot .elements) / 8) (report L (lot .nodes) (lot .elements) D) n
 ]
 
--- the slip of a lot, by whether its elements are few enough: one of more is refused with 26, as a file of too many is
+-- the slip of a lot, by whether its elements are few enough. No. 8: "the slip answers 26 to a longer lot without fault"
 abbrev pub slipIf : Bool → List ℕ → List ℕ
 slipIf true slip = slip
 slipIf false slip = refusedLine (unreadableNumber tooManyElements)

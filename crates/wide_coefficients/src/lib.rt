@@ -6,11 +6,11 @@ ghost use mathlib.Core.Path.{_≡_};
 ghost use lib.ListN.{length};
 ghost use lib.IntN.{pos, _+ℤ_, _*ℤ_};
 ghost use Rattle.foundation.specs.Lists.{tabulate};
+ghost use Rattle.definitions.specs.Limits.{base};
 ghost use Rattle.definitions.specs.Coefficients.{coefficients};
 ghost use Rattle.wide_number.specs.Meaning.{valueOf, modulo};
 ghost use Rattle.wide_array.specs.Values.{values};
 ghost use Rattle.element_vectors.specs.Range.{InRange};
-ghost use Rattle.wide_volumes.specs.Range.{wideRange};
 ghost use Rattle.wide_coefficients.specs.Joined.{joinAt};
 use wide_number::Wide;
 
@@ -49,7 +49,7 @@ fn put_joined(high: &[i64; 27], low: &[i64; 27], out: &mut [u64; 54])
 
 // The 27 coefficients, times 8, in the order of their numbers. The eight points p are in place order, x, y, z of each. All of out is written.
 pub fn coefficients(p: &[i32; 24], out: &mut [u64; 54])
-    requires { ⌜ InRange wideRange (now p) ⌝ ∗ ⌜ length (now out) ≡ 54 ⌝ }
+    requires { ⌜ InRange (base .range) (now p) ⌝ ∗ ⌜ length (now out) ≡ 54 ⌝ }
     ensures { λ _. ⌜ values (now (out .exit)) ≡ coefficients (now (p .entry)) ⌝ ∗ ⌜ length (now (out .exit)) ≡ 54 ⌝ }
 {
     let mut high = [0i64; 20];

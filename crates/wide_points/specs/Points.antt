@@ -1,42 +1,47 @@
--- Eight points within the larger limits (document 02, No. 8): two words hold their coefficients at every level within the limits, so the search in two words may be used;
+-- Eight points within the limits: two words hold their coefficients at every level within the limits, so the search in two words may be used;
 -- and how large each number of a record gets.
-use mathlib.Core.Path.{_≡_, sym, _∙_, ap, subst}
-use mathlib.Core.List.{List}
+use mathlib.Core.Path.{_≡_, refl, sym, _∙_, ap, subst}
+use mathlib.Core.List.{List, [], _∷_}
 use Prim.Native.Nat.{ℕ, _*_, _^_, _≤_, _<_}
 use native.Mathlib.Nat.{le-trans, mul-le-mul-left, pow-le-pow-right, zero-lt-suc, lt-of-le-of-lt}
 use lib.Dec.{lit<, lit≤}
 use lib.ListN.{length}
-use lib.IntN.{ℤ, natAbs}
+use lib.IntN.{ℤ, pos, natAbs}
+use mir.Syntax.{w128}
+use mir.Val.{SFits}
 use Rattle.foundation.specs.Lists.{All, all-map}
 use Rattle.foundation.specs.Words.{Within}
+use Rattle.definitions.specs.Limits.{base}
 use Rattle.definitions.specs.Coefficients.{coefficients}
 use Rattle.definitions.specs.Subdivision.{whole, cells}
+use Rattle.definitions.specs.Record.{valueHeld, verdictWords, recordOf}
 use Rattle.definitions.specs.Verdict.{Verdict, valid, invalid, undecided, verdict, opened}
 use Rattle.expansion_theory.specs.Expansion.{length-coefficients}
 use Rattle.expansion_theory.specs.Size.{whole-size, coefficient-finer}
 use Rattle.verdict_theory.specs.Opened.{most, opened-most}
 use Rattle.verdict_theory.specs.Named.{Names, OnGrid, named-on-grid}
-use Rattle.search_theory.specs.Meaning.{Small, deepest}
-use Rattle.search_theory.specs.Levels.{most-less}
+use Rattle.search_theory.specs.Meaning.{Small}
+use Rattle.wrapping_theory.specs.Runs.{size-fits}
+use Rattle.wrapping_theory.specs.Words.{words-back}
+use Rattle.search_theory.specs.Levels.{named-small, most-less}
 use Rattle.element_vectors.specs.Range.{InRange}
-use Rattle.wide_volumes.specs.Range.{wideRange}
 use Rattle.wide_rows.specs.Word.{largest}
 
 -- what the magnitude of a coefficient of the whole is at most, and one of the deepest level
 abbrev size : ℕ
-size = 384 * wideRange ^ 3
+size = 384 * base .range ^ 3
 
 abbrev pub heldMost : ℕ
 heldMost = 384 * 2 ^ 108
 
-within : (xs : List ℤ) → InRange wideRange xs → Within size (coefficients xs)
+within : (xs : List ℤ) → InRange (base .range) xs → Within size (coefficients xs)
 unfolding whole
-within xs h = whole-size xs wideRange (h .small)
+within xs h = whole-size xs (base .range) (h .small)
 
-deep : (n : ℕ) → n ≤ deepest → size * 64 ^ n ≤ heldMost
+deep : (n : ℕ) → n ≤ base .depth → size * 64 ^ n ≤ heldMost
 deep n l = mul-le-mul-left size (pow-le-pow-right (zero-lt-suc 63) l)
 
-pub points-small : (xs g : List ℤ) (depth : ℕ) → InRange wideRange xs → depth ≤ deepest → g ≡ coefficients xs → Small largest g depth
+pub points-small : (xs g : List ℤ) (depth : ℕ) → InRange (base .range) xs → depth ≤ base .depth → g ≡ coefficients xs → Small largest g depth
 points-small xs g depth h l e = record {
   bound = size;
   control = record { sized = ap length e ∙ length-coefficients xs; within = subst (Within size) (sym e) (within xs h) };
@@ -46,19 +51,19 @@ points-small xs g depth h l e = record {
 -- ---- how large the numbers get, for points within the limits at a level or depth within them
 module _ (xs : List ℤ) where
   -- every coefficient that is held is below 384 · 2^108
-  pub held-below : InRange wideRange xs → (m : ℕ) → m ≤ deepest → All (λ s. All (λ v. natAbs v < heldMost) (s .control)) (cells xs m)
+  pub held-below : InRange (base .range) xs → (m : ℕ) → m ≤ base .depth → All (λ s. All (λ v. natAbs v < heldMost) (s .control)) (cells xs m)
   held-below h m l = all-map (λ s. All (λ v. natAbs v ≤ half * 64 ^ m) (s .control)) (λ s. All (λ v. natAbs v < heldMost) (s .control))
-      (λ s p. all-map (λ v. natAbs v ≤ half * 64 ^ m) (λ v. natAbs v < heldMost) (λ v q. lt-of-le-of-lt (le-trans q (mul-le-mul-left half (pow-le-pow-right (zero-lt-suc 63) l))) (lit< tt)) (s .control) p) (cells xs m) (coefficient-finer xs wideRange (h .small) m)
+      (λ s p. all-map (λ v. natAbs v ≤ half * 64 ^ m) (λ v. natAbs v < heldMost) (λ v q. lt-of-le-of-lt (le-trans q (mul-le-mul-left half (pow-le-pow-right (zero-lt-suc 63) l))) (lit< tt)) (s .control) p) (cells xs m) (coefficient-finer xs (base .range) (h .small) m)
     where
       half : ℕ
-      half = 192 * wideRange ^ 3
+      half = 192 * base .range ^ 3
 
   -- at most 19,173,961 cells are opened
-  pub opened-few : (D : ℕ) → D ≤ deepest → opened xs D ≤ 19173961
+  pub opened-few : (D : ℕ) → D ≤ base .depth → opened xs D ≤ 19173961
   opened-few D l = le-trans (opened-most xs D) (le-trans (most-less D l) (lit≤ tt))
 
   -- a grid number that is named is at most 256
-  pub grid-small : (D : ℕ) → D ≤ deepest → Names (λ f. (f .a ≤ 256) × (f .b ≤ 256) × (f .c ≤ 256)) (verdict xs D)
+  pub grid-small : (D : ℕ) → D ≤ base .depth → Names (λ f. (f .a ≤ 256) × (f .b ≤ 256) × (f .c ≤ 256)) (verdict xs D)
   grid-small D l = go (verdict xs D) (named-on-grid xs D)
     where
       most : 2 ^ D ≤ 256
@@ -68,3 +73,13 @@ module _ (xs : List ℤ) where
       go (valid m) h = tt
       go (invalid m f) h = (le-trans (h .0) most, le-trans (h .1) most, le-trans (h .2) most)
       go (undecided m f) h = (le-trans (h .0) most, le-trans (h .1) most, le-trans (h .2) most)
+
+  -- words 6 and 7 of a record, read back, are the value that the verdict names: no other number has them
+  pub value-read : InRange (base .range) xs → (D : ℕ) → D ≤ base .depth → Names (λ f. valueHeld (recordOf xs D) ≡ f .value) (verdict xs D)
+  unfolding recordOf
+  value-read h D l = go (verdict xs D) (named-small largest xs (coefficients xs) D refl (points-small xs (coefficients xs) D h l refl) (SFits w128) (λ v q. size-fits w128 largest v q tt))
+    where
+      go : (v : Verdict) → Names (λ f. SFits w128 (f .value)) v → Names (λ f. valueHeld (verdictWords v (opened xs D)) ≡ f .value) v
+      go (valid m) q = tt
+      go (invalid m f) q = words-back (f .value) (pos (opened xs D) ∷ []) q
+      go (undecided m f) q = words-back (f .value) (pos (opened xs D) ∷ []) q

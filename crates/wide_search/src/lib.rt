@@ -4,14 +4,16 @@ ghost use mathlib.Core.Path.{_≡_};
 ghost use mathlib.Core.List.{List};
 ghost use Prim.Native.Nat.{_^_, _≤_};
 ghost use lib.IntN.{ℤ};
+ghost use Rattle.definitions.specs.Limits.{base};
 ghost use Rattle.definitions.specs.Coefficients.{coefficients};
+ghost use Rattle.definitions.specs.Record.{recordOf};
 ghost use Rattle.verdict_theory.specs.Search.{Pass, visit as visited};
-ghost use Rattle.search_theory.specs.Meaning.{cellOf, Small, deepest, Room, Held};
+ghost use Rattle.search_theory.specs.Meaning.{cellOf, Small, Room, Held};
 ghost use Rattle.search_theory.specs.Levels.{wholeOf, fresh};
 ghost use Rattle.wide_array.specs.Values.{values};
 ghost use Rattle.wide_rows.specs.Word.{largest};
-ghost use Rattle.search_pass.specs.Meaning.{passWords, wideRecordOf};
-use limits::WIDE_RECORD_WORDS;
+ghost use Rattle.search_pass.specs.Meaning.{passWords};
+use limits::RECORD_WORDS;
 use search_pass::PASS_WORDS;
 use wide_number::Wide;
 
@@ -59,7 +61,7 @@ fn visit(g: &[u64; 54], a: u32, b: u32, c: u32, left: u32, pass: &mut [i64; PASS
 
 // The pass of a level over the whole element, after a pass of which the count of cells stays.
 fn pass_at(g: &[u64; 54], level: u32, pass: &mut [i64; PASS_WORDS])
-    requires { ⌜ Small largest (values (now g)) level × (level ≤ deepest) × Held passWords (8 ^ level) (now pass) ⌝ }
+    requires { ⌜ Small largest (values (now g)) level × (level ≤ base .depth) × Held passWords (8 ^ level) (now pass) ⌝ }
     ensures { λ _. ⌜ ((p : Pass) → now (pass .entry) ≡ passWords p → now (pass .exit) ≡ passWords (visited level (wholeOf (values (now (g .entry)))) (fresh (p .count)))) ⌝ }
 {
     search_pass::note(0, 0, 0, 0, 0, Wide::from_i64(0), pass);
@@ -67,9 +69,9 @@ fn pass_at(g: &[u64; 54], level: u32, pass: &mut [i64; PASS_WORDS])
 }
 
 // The record of the eight points with these coefficients: a pass of level 0, 1, .. while only low coefficients are found.
-pub fn record(g: &[u64; 54], depth: u32) -> [i64; WIDE_RECORD_WORDS]
-    requires { ⌜ Small largest (values (now g)) depth × (depth ≤ deepest) ⌝ }
-    ensures { λ w. ⌜ ((xs : List ℤ) → values (now (g .entry)) ≡ coefficients xs → w ≡ wideRecordOf xs depth) ⌝ }
+pub fn record(g: &[u64; 54], depth: u32) -> [i64; RECORD_WORDS]
+    requires { ⌜ Small largest (values (now g)) depth × (depth ≤ base .depth) ⌝ }
+    ensures { λ w. ⌜ ((xs : List ℤ) → values (now (g .entry)) ≡ coefficients xs → w ≡ recordOf xs depth) ⌝ }
 {
     let mut m: u32 = 0;
     let mut r = [0i64; PASS_WORDS];

@@ -7,14 +7,14 @@ use lib.IntN.{ℤ}
 use Rattle.foundation.specs.Filled.{Filled, none-filled, one-filled, all-filled}
 use Rattle.foundation.specs.Lists.{tabulate}
 use Rattle.foundation.specs.Words.{args}
+use Rattle.definitions.specs.Limits.{base}
 use Rattle.definitions.specs.Jacobian.{nodesOf}
 use Rattle.element_vectors.specs.Range.{InRange}
-use Rattle.wide_volumes.specs.Range.{wideRange}
 use Rattle.wide_volumes.specs.Digits.{upper, lower, digits}
 
 -- points in range, and twice twenty words whose first k are the digits of the first k volumes
 pub record Begun (xs : List ℤ) (k : ℕ) (high low : List ℤ) : Type 0 where
-  pub range : InRange wideRange xs
+  pub range : InRange (base .range) xs
   pub uppers : Filled (args (digits upper (nodesOf xs))) 20 k high
   pub lowers : Filled (args (digits lower (nodesOf xs))) 20 k low
 
@@ -23,7 +23,7 @@ unfolding digits
 whole f xs = refl
 
 module _ {xs high low : List ℤ} where
-  pub begin : InRange wideRange xs → length high ≡ 20 → length low ≡ 20 → Begun xs 0 high low
+  pub begin : InRange (base .range) xs → length high ≡ 20 → length low ≡ 20 → Begun xs 0 high low
   begin r h l = record { range = r; uppers = none-filled _ h; lowers = none-filled _ l }
 
   -- the digits of volume k are put in their places

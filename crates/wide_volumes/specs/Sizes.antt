@@ -6,11 +6,12 @@ use lib.IntN.{ℤ, natAbs}
 use Rattle.foundation.specs.Lists.{all-image, all-every}
 use Rattle.foundation.specs.Polynomial.{integers}
 use Rattle.foundation.specs.Words.{args, split, within-split}
+use Rattle.definitions.specs.Limits.{base}
 use Rattle.definitions.specs.Jacobian.{nodesOf}
 use Rattle.definitions.specs.Coefficients.{edge, middle, cornerTetrahedra, edgeTetrahedra}
 use Rattle.element_vectors.specs.Range.{InRange}
 use Rattle.element_vectors.specs.Sizes.{det-small, edge-small, middle-small}
-use Rattle.wide_volumes.specs.Range.{wideRange, edgeLimit, middleLimit, digitLimit}
+use Rattle.wide_volumes.specs.Range.{edgeLimit, middleLimit, digitLimit}
 use Rattle.wide_volumes.specs.Digits.{upper, lower, upper-small, lower-small, cornerDigit, edgeDigit, digits}
 
 -- a determinant has six products
@@ -20,7 +21,7 @@ cornerDigitLimit = 6 * (digitLimit * (edgeLimit * edgeLimit))
 abbrev pub edgeDigitLimit : ℕ
 edgeDigitLimit = 6 * (digitLimit * (middleLimit * middleLimit))
 
-module _ {xs : List ℤ} (h : InRange wideRange xs) where
+module _ {xs : List ℤ} (h : InRange (base .range) xs) where
   digits-small : (f : ℤ → ℤ) → ((z : ℤ) → natAbs z ≤ edgeLimit → natAbs (f z) ≤ digitLimit) → (i : ℕ) → natAbs (args (digits f (nodesOf xs)) i) ≤ split 8 cornerDigitLimit edgeDigitLimit i
   unfolding digits
   digits-small f s = within-split cornerDigitLimit edgeDigitLimit (map (cornerDigit f (nodesOf xs)) cornerTetrahedra) (map (edgeDigit f (nodesOf xs)) edgeTetrahedra)

@@ -7,11 +7,12 @@ ghost use Prim.Native.Nat.{_+_, _-_, _<_, _≤_};
 ghost use lib.ListN.{getD, set, length};
 ghost use Rattle.foundation.specs.Polynomial.{integers};
 ghost use Rattle.foundation.specs.Words.{Within};
+ghost use Rattle.definitions.specs.Limits.{base};
 ghost use Rattle.definitions.specs.Jacobian.{nodesOf, det};
 ghost use Rattle.definitions.specs.Coefficients.{cornerTetrahedra, edgeTetrahedra};
 ghost use Rattle.element_vectors.specs.Range.{InRange, Node};
 ghost use Rattle.element_vectors.specs.Vectors.{vector};
-ghost use Rattle.wide_volumes.specs.Range.{wideRange, edgeLimit, middleLimit};
+ghost use Rattle.wide_volumes.specs.Range.{edgeLimit, middleLimit};
 ghost use Rattle.wide_volumes.specs.Digits.{upper, lower, digits};
 ghost use Rattle.wide_volumes.specs.Begun.{Begun};
 use element_vectors::determinant;
@@ -157,7 +158,7 @@ fn put_edges(p: &[i32; 24], high: &mut [i64; 20], low: &mut [i64; 20])
 
 // The digits of the twenty volumes, corners 1 to 8 and then edges 9 to 20. All of high and low is written.
 pub fn digits(p: &[i32; 24], high: &mut [i64; 20], low: &mut [i64; 20])
-    requires { ⌜ InRange wideRange (now p) ⌝ ∗ ⌜ (length (now high) ≡ 20) × (length (now low) ≡ 20) ⌝ }
+    requires { ⌜ InRange (base .range) (now p) ⌝ ∗ ⌜ (length (now high) ≡ 20) × (length (now low) ≡ 20) ⌝ }
     ensures { λ _. ⌜ now (high .exit) ≡ digits upper (nodesOf (now (p .entry))) ⌝ }
     ensures { λ _. ⌜ now (low .exit) ≡ digits lower (nodesOf (now (p .entry))) ⌝ }
 {

@@ -78,11 +78,3 @@ one-word (negsuc n) f = f .sfits
 
 pub product-fits : (x y : ℤ) → SFits w64 x → SFits w64 y → SFits w128 (x *ℤ y)
 product-fits x y f g = size-fits w128 (signedLimit * signedLimit) (x *ℤ y) (le-trans (le-of-eq (magnitude-mul x y)) (mul-le-mul (one-word x f) (one-word y g))) tt
-
--- ---- a number that one word holds is the signed number of its low word
-narrowed : (m k : ℕ) {a b : ℤ} → Congruent (m * k) a b → Congruent k a b
-narrowed m k {b = b} c = record { times = c .times *ℤ pos m; is = c .is ∙ solve (args (b ∷ c .times ∷ pos m ∷ pos k ∷ [])) (add (var 0) (mul (var 1) (mul (var 2) (var 3)))) (add (var 0) (mul (mul (var 1) (var 2)) (var 3))) tt }
-
-pub low-word-single : (z : ℤ) → SFits w64 z → toZ w64 (lowWord z) ≡ z
-low-word-single z f = let n = remainder (wordBase * wordBase) z in let w : Fits w64 (n % wordBase) = record { fits = mod-lt n (lit< tt) } in
-    one-alone w64 (toZ-fits w64 (n % wordBase) w) f (chained (bits-congruent w64 (n % wordBase) w) (chained (divided wordBase n) (narrowed wordBase wordBase (left-over (wordBase * wordBase) (lit< tt) z))))

@@ -1,7 +1,7 @@
 -- Numbers of two words: the value by the 128 bits, what an operation on the bits does to the value, and that the value determines the words.
 use mathlib.Core.Path.{_≡_, refl, sym, _∙_, ap, subst}
 use mathlib.Core.Bool.{Bool, true, false}
-use mathlib.Core.List.{[], _∷_}
+use mathlib.Core.List.{List, [], _∷_, _++_}
 use Prim.Native.Nat.{ℕ, zero, suc, _+_, _*_, _-_, _/_, _%_, _^_, _<_, _≤_}
 use native.Mathlib.Nat.{le-trans, lt-of-lt-of-le, le-add-right, mul-le-mul-right, add-mul, mod-lt, mod-eq-of-lt, div-add-mod', div-lt-iff-lt-mul}
 use native.Mathlib.Omega.{arith}
@@ -15,7 +15,7 @@ use mir.ValLaws.{toZ-pos, toZ-neg, toZ-fits, ofZ-toZ}
 use Rattle.foundation.specs.Magnitude.{sub-cases}
 use Rattle.foundation.specs.Polynomial.{var, add, neg, solve}
 use Rattle.foundation.specs.Words.{args, signedLimit}
-use Rattle.definitions.specs.TwoWords.{wordBase, value, remainder, wrapped, lowWord, highWord}
+use Rattle.definitions.specs.TwoWords.{wordBase, value, remainder, wrapped, lowWord, highWord, twoWords, fromTwoWords}
 use Rattle.wrapping_theory.specs.Congruence.{Congruent, equal, itself, turned, chained, sum, difference, product, divided, left-over, remainder-below}
 use Rattle.wrapping_theory.specs.Wrapping.{bits-congruent, is-wrapped, exact}
 
@@ -43,6 +43,9 @@ sign high = go (ltb high signedLimit) refl
 -- ---- the value by the bits
 mirrored : (m n : ℕ) → n < m → m - suc (m - suc n) ≡ n
 mirrored m n h = omega (arith, h)
+
+turned-back : (m n : ℕ) → n < m → m - suc ((m - suc n) % m) ≡ n
+turned-back m n h = let less : m - suc n < m = omega (arith, h) in ap (λ (k : ℕ). m - suc k) (mod-eq-of-lt less) ∙ mirrored m n h
 
 upper : (half m n : ℕ) → m ≡ half + half → half ≤ n → n < m → m - suc n < half
 upper half m n e h k = omega (arith, e, h, k)
@@ -121,9 +124,6 @@ module _ (low high : ℕ) (w : AreWords low high) where
   value-left : remainder (wordBase * wordBase) (value low high) ≡ together low high
   value-left = go (sign high)
     where
-      turned-back : (m n : ℕ) → n < m → m - suc ((m - suc n) % m) ≡ n
-      turned-back m n h = let less : m - suc n < m = omega (arith, h) in ap (λ (k : ℕ). m - suc k) (mod-eq-of-lt less) ∙ mirrored m n h
-
       go : Sign high → remainder (wordBase * wordBase) (value low high) ≡ together low high
       go (plus h) = ap (remainder (wordBase * wordBase)) (value-above low high h) ∙ mod-eq-of-lt (together-below low high w)
       go (minus h) = ap (remainder (wordBase * wordBase)) (value-below low high w h) ∙ turned-back (wordBase * wordBase) (together low high) (together-below low high w)
@@ -151,6 +151,21 @@ module _ (z : ℤ) where
 
   pub value-of-words-exact : SFits w128 z → value (lowWord z) (highWord z) ≡ z
   value-of-words-exact f = value-of-words ∙ exact w128 f
+
+-- ---- a whole number to the two words of a record, and back
+word-back : (n : ℕ) → n < 2 ^ 64 → remainder wordBase (toZ w64 n) ≡ n
+word-back n h = go (sign n)
+  where
+    go : Sign n → remainder wordBase (toZ w64 n) ≡ n
+    go (plus l) = ap (remainder wordBase) (toZ-pos w64 n l) ∙ mod-eq-of-lt h
+    go (minus l) = ap (remainder wordBase) (ap (toZ w64) (sym (mirrored (2 ^ 64) n h)) ∙ toZ-neg w64 (2 ^ 64 - suc n) (upper signedLimit (2 ^ 64) n refl l h)) ∙ turned-back (2 ^ 64) n h
+
+pub words-back : (z : ℤ) (ws : List ℤ) → SFits w128 z → fromTwoWords (twoWords z ++ ws) ≡ z
+words-back z ws f = let w = are-words z in (λ i. value (word-back (lowWord z) (w .low-word) i) (word-back (highWord z) (w .high-word) i)) ∙ value-of-words-exact z f
+
+-- so the two words determine the number
+pub words-determine : (y z : ℤ) → SFits w128 y → SFits w128 z → twoWords y ≡ twoWords z → y ≡ z
+words-determine y z f g e = sym (words-back y [] f) ∙ ap (λ (ws : List ℤ). fromTwoWords (ws ++ [])) e ∙ words-back z [] g
 
 -- ---- operations, by their bits
 left-of : (m n : ℕ) → m ≡ n % 2 ^ 128 → Congruent (2 ^ 128) (pos m) (pos n)

@@ -6,7 +6,9 @@
 //! children in a half without a low coefficient are passed over.  Both for numbers of
 //! one word and of two.
 
-use crate::mesh::{determinant, difference, invalid, sum, undecided, valid, Answer, Held, CORNERS};
+use crate::mesh::{
+    determinant, difference, invalid, sum, undecided, valid, Answer, Held, Record, CORNERS,
+};
 
 /// Coefficients at (xi, eta, zeta) half steps, xi running fastest.
 type Net<N> = [N; 27];
@@ -19,20 +21,16 @@ const ORDER: [usize; 27] = [
     13, // centre
 ];
 
-pub fn inspect(coordinates: &[i32], indices: &[u32], depth: u32, report: &mut [i64]) -> Answer {
-    crate::mesh::inspect(coordinates, indices, depth, report, record::<i64, false>)
-}
-
-pub fn inspect_sparing(
+pub fn inspect<N: Held, const SPARE: bool>(
     coordinates: &[i32],
     indices: &[u32],
     depth: u32,
     report: &mut [i64],
 ) -> Answer {
-    crate::mesh::inspect(coordinates, indices, depth, report, record::<i64, true>)
+    crate::mesh::inspect::<N>(coordinates, indices, depth, report, record::<N, SPARE>)
 }
 
-pub fn record<N: Held, const SPARE: bool>(n: &[[i64; 3]; 8], depth: u32) -> N::Record {
+fn record<N: Held, const SPARE: bool>(n: &[[i64; 3]; 8], depth: u32) -> Record {
     // the twelve edges, along xi, eta and zeta
     let (x12, x43) = (difference(n[0], n[1]), difference(n[3], n[2]));
     let (x56, x87) = (difference(n[4], n[5]), difference(n[7], n[6]));
@@ -95,7 +93,7 @@ pub fn record<N: Held, const SPARE: bool>(n: &[[i64; 3]; 8], depth: u32) -> N::R
         eight(7), edge(q78, 6, 7), eight(6),
     ];
     if all_positive(&net) {
-        return valid::<N>(0, 1);
+        return valid(0, 1);
     }
     deeper::<N, SPARE>(&net, depth)
 }
@@ -106,7 +104,7 @@ fn all_positive<N: Held>(net: &Net<N>) -> bool {
 
 /// The whole has positive corners and some coefficient not above 0: level by
 /// level, until a level decides or the depth is reached.
-fn deeper<N: Held, const SPARE: bool>(whole: &Net<N>, depth: u32) -> N::Record {
+fn deeper<N: Held, const SPARE: bool>(whole: &Net<N>, depth: u32) -> Record {
     let mut opened = 1;
     let mut blocked = first_fault(whole, [0; 3]);
     for level in 1..=depth {
@@ -117,12 +115,12 @@ fn deeper<N: Held, const SPARE: bool>(whole: &Net<N>, depth: u32) -> N::Record {
         opened = pass.opened;
         blocked = pass.fault;
         if blocked.is_none() {
-            return valid::<N>(level, opened);
+            return valid(level, opened);
         }
     }
     match blocked {
         Some((cube, number, held)) => undecided(depth, cube, number, held, opened),
-        None => valid::<N>(depth, opened),
+        None => valid(depth, opened),
     }
 }
 
@@ -149,7 +147,7 @@ impl<N: Held> Pass<N> {
         net: &Net<N>,
         cube: [u32; 3],
         left: u32,
-    ) -> Result<(), N::Record> {
+    ) -> Result<(), Record> {
         if left == 0 {
             return self.open(net, cube);
         }
@@ -188,7 +186,7 @@ impl<N: Held> Pass<N> {
         }
     }
 
-    fn open(&mut self, net: &Net<N>, cube: [u32; 3]) -> Result<(), N::Record> {
+    fn open(&mut self, net: &Net<N>, cube: [u32; 3]) -> Result<(), Record> {
         self.opened += 1;
         if all_positive(net) {
             return Ok(());

@@ -1,32 +1,43 @@
-//! The lots that are timed: 900 elements each, every one of the lot's kind.
+//! The lots that are timed: 900 elements each, every one of the lot's kind, within the
+//! coordinates and the depth for which numbers of one word suffice.
 
 use crate::direct;
+use crate::mesh::{Held, Record};
 use second::specimens::{cube, twisted, Points, Shaker};
 
 pub const ELEMENTS: usize = 900;
 pub const DEPTH: u32 = 3;
 
+#[derive(Clone)]
 pub struct Lot {
     pub name: &'static str,
+    pub depth: u32,
     pub coordinates: Vec<i32>,
     pub indices: Vec<u32>,
+}
+
+impl Lot {
+    pub fn elements(&self) -> usize {
+        self.indices.len() / 8
+    }
 }
 
 pub const IN_ORDER: [u32; 8] = [0, 1, 2, 3, 4, 5, 6, 7];
 
 fn narrow(points: &Points) -> [i32; 24] {
-    points.map(|x| x.clamp(-4096, 4096) as i32)
+    const END: i64 = <i64 as Held>::MAX_COORDINATE as i64;
+    points.map(|x| x.clamp(-END, END) as i32)
 }
 
-fn record(points: &Points) -> [i64; 8] {
-    let mut report = [0; 8];
-    direct::inspect(&narrow(points), &IN_ORDER, DEPTH, &mut report);
+fn record(points: &Points) -> Record {
+    let mut report = [0; brundhal::RECORD_WORDS];
+    direct::inspect::<i64, false>(&narrow(points), &IN_ORDER, DEPTH, &mut report);
     report
 }
 
 /// Elements with eight nodes of their own, as many as 5,000 nodes allow, each
 /// serving more than once to make 900.
-fn drawn(name: &'static str, mut draw: impl FnMut() -> Points, kind: fn(&[i64; 8]) -> bool) -> Lot {
+fn drawn(name: &'static str, mut draw: impl FnMut() -> Points, kind: fn(&Record) -> bool) -> Lot {
     const DISTINCT: usize = 600;
     let mut coordinates = Vec::new();
     while coordinates.len() < 24 * DISTINCT {
@@ -37,7 +48,7 @@ fn drawn(name: &'static str, mut draw: impl FnMut() -> Points, kind: fn(&[i64; 8
     }
     let first_node = |element: usize| 8 * (element % DISTINCT) as u32;
     let indices = (0..ELEMENTS).flat_map(|e| IN_ORDER.map(|n| first_node(e) + n)).collect();
-    Lot { name, coordinates, indices }
+    Lot { name, depth: DEPTH, coordinates, indices }
 }
 
 /// A block of 9 by 10 by 10 elements that share their nodes, shaken.
@@ -55,7 +66,7 @@ fn block(shaker: &mut Shaker) -> Lot {
         [ring(c), ring(c + 1)].concat()
     };
     let indices = (0..ELEMENTS as u32).flat_map(corners).collect();
-    Lot { name: "valid at level 0", coordinates, indices }
+    Lot { name: "valid at level 0", depth: DEPTH, coordinates, indices }
 }
 
 /// A third with a coordinate outside the range, a third with an index that names no
@@ -66,7 +77,7 @@ fn refused(shaker: &mut Shaker) -> Lot {
     let mut indices = Vec::new();
     for element in 0..third as u32 {
         let mut points = narrow(&cube(0, 900));
-        points[shaker.between(0, 23) as usize] = 4097;
+        points[shaker.between(0, 23) as usize] = brundhal::MAX_COORDINATE + 1;
         coordinates.extend(points);
         indices.extend(IN_ORDER.map(|n| 8 * element + n));
     }
@@ -81,15 +92,16 @@ fn refused(shaker: &mut Shaker) -> Lot {
         element[lower as usize] = element[shaker.between(lower + 1, 7) as usize];
         indices.extend(element);
     }
-    Lot { name: "refused", coordinates, indices }
+    Lot { name: "refused", depth: DEPTH, coordinates, indices }
 }
 
 fn case_f() -> Lot {
     let coordinates = narrow(&twisted(1, 1, 2, 2)).to_vec();
-    Lot { name: "undecided (case F)", coordinates, indices: IN_ORDER.repeat(ELEMENTS) }
+    let indices = IN_ORDER.repeat(ELEMENTS);
+    Lot { name: "undecided (case F)", depth: DEPTH, coordinates, indices }
 }
 
-pub fn lots() -> Vec<Lot> {
+pub fn lots() -> [Lot; 6] {
     let mut shaker = Shaker::new(2024);
     let mut corner = Shaker::new(2025);
     let folded = |shaker: &mut Shaker| {
@@ -100,7 +112,7 @@ pub fn lots() -> Vec<Lot> {
         }
         points.map(|x| x + shaker.between(-100, 100))
     };
-    vec![
+    [
         block(&mut shaker),
         drawn("valid at a deeper level", || shaker.strained(), |r| r[0] == 0 && r[1] > 0),
         drawn("invalid at a corner", || folded(&mut corner), |r| r[0] == 1 && r[1] == 0),

@@ -1,14 +1,13 @@
 //! Time an element: the built library, an ordinary Rust version with direct
 //! formulas, that version with the library's sparing of clear halves, and the
-//! library's own method in ordinary Rust.  Time a half and an element in numbers of
-//! two words: the library's inner services, and the same versions.  Time a lot file:
-//! the library, and ordinary Rust readers, a writer and a printer of slips.
+//! library's own method in ordinary Rust; the versions with numbers of one word, and
+//! for larger parts with numbers of two.  Time a lot file: the library, and ordinary
+//! Rust readers, a writer and a printer of slips.
 //!
-//! Prints, for lots of 900 elements at depth 3, the best of several rounds in
-//! microseconds an element and the ratios.  The four reports of each lot must
-//! be the same, word for word; so must be halves and records in numbers of two words,
-//! what the readers give of each file, the writers of each lot and the printers of
-//! each slip.
+//! Prints, for lots of 900 elements at depth 3 and for one element at depth 8, the best
+//! of several rounds in microseconds an element and the ratios.  The four reports of
+//! each lot must be the same, word for word; so must be what the readers give of each
+//! file, the writers of each lot and the printers of each slip.
 //! Use: `bench`, or `bench ROUNDS`, or `bench ROUNDS NAME` for the lots, files and
 //! the like whose name begins with NAME.
 
@@ -28,8 +27,9 @@ mod wide;
 mod writer;
 mod writing;
 
-use lots::{lots, Lot, DEPTH, ELEMENTS};
-use mesh::Answer;
+use brundhal::{word, RECORD_WORDS};
+use lots::{Lot, DEPTH, ELEMENTS};
+use mesh::{Answer, Held};
 use std::hint::black_box;
 use timing::Version;
 
@@ -40,12 +40,17 @@ fn library(coordinates: &[i32], indices: &[u32], depth: u32, report: &mut [i64])
     [answer.number, answer.valid, answer.invalid, answer.undecided, answer.refused]
 }
 
-const VERSIONS: [(&str, Inspect); 4] = [
-    ("library", library),
-    ("direct", direct::inspect),
-    ("sparing", direct::inspect_sparing),
-    ("same method", same_method::inspect),
-];
+type Versions = [(&'static str, Inspect); 4];
+
+/// The library, and the versions with numbers of one kind.
+fn versions<N: Held>() -> Versions {
+    [
+        ("library", library),
+        ("direct", direct::inspect::<N, false>),
+        ("sparing", direct::inspect::<N, true>),
+        ("same method", same_method::inspect::<N>),
+    ]
+}
 
 /// A sum over all report words in which the order counts.
 fn checksum(report: &[i64]) -> u64 {
@@ -54,56 +59,51 @@ fn checksum(report: &[i64]) -> u64 {
 }
 
 fn report_of(lot: &Lot, inspect: Inspect) -> (Answer, Vec<i64>) {
-    let mut report = vec![-1; 8 * ELEMENTS];
-    let answer = inspect(&lot.coordinates, &lot.indices, DEPTH, &mut report);
+    let mut report = vec![-1; RECORD_WORDS * lot.elements()];
+    let answer = inspect(&lot.coordinates, &lot.indices, lot.depth, &mut report);
     (answer, report)
 }
 
 /// Inspects a lot once, for its time.
 fn version(inspect: Inspect, lot: &Lot) -> Version<'_> {
-    let mut report = vec![0; 8 * ELEMENTS];
+    let mut report = vec![0; RECORD_WORDS * lot.elements()];
     Box::new(move || {
         let (coordinates, indices) = (black_box(&lot.coordinates), black_box(&lot.indices));
-        black_box(inspect(coordinates, indices, black_box(DEPTH), &mut report));
+        black_box(inspect(coordinates, indices, black_box(lot.depth), &mut report));
         black_box(&mut report);
     })
 }
 
 /// Best time an element of each version, in microseconds.
-fn best(lot: &Lot, rounds: u32) -> [f64; 4] {
-    let a_lot = timing::best(rounds, VERSIONS.map(|(_, inspect)| version(inspect, lot)));
-    a_lot.map(|time| time / ELEMENTS as f64)
+fn best(lot: &Lot, rounds: u32, versions: Versions) -> [f64; 4] {
+    let a_lot = timing::best(rounds, versions.map(|(_, inspect)| version(inspect, lot)));
+    a_lot.map(|time| time / lot.elements() as f64)
 }
 
-/// The reports of all versions, found equal; the lot's own figures.
-fn checked(lot: &Lot) -> Result<String, String> {
-    let (answer, report) = report_of(lot, library);
-    for (name, inspect) in VERSIONS {
-        let (other_answer, other) = report_of(lot, inspect);
-        if other_answer != answer || other != report || checksum(&other) != checksum(&report) {
+/// The library's answer and report, found equal to those of all versions.
+fn checked(lot: &Lot, versions: Versions) -> Result<(Answer, Vec<i64>), String> {
+    let found = report_of(lot, library);
+    for (name, inspect) in versions {
+        if report_of(lot, inspect) != found {
             return Err(format!("{}: the report of {name} differs", lot.name));
         }
     }
-    let opened: i64 = report.chunks_exact(8).map(|record| record[7]).sum();
-    let [_, valid, invalid, undecided, refused] = answer;
-    Ok(format!(
-        "valid {valid} invalid {invalid} undecided {undecided} refused {refused}, \
-         {:.1} cubes opened an element, checksum {:016x}",
-        opened as f64 / ELEMENTS as f64,
-        checksum(&report)
-    ))
+    Ok(found)
 }
 
-fn main() -> Result<(), String> {
-    let rounds = match std::env::args().nth(1) {
-        None => 40,
-        Some(text) => text.parse().map_err(|_| format!("no number of rounds: {text}"))?,
-    };
-    let name = std::env::args().nth(2).unwrap_or_default();
-    let lots: Vec<Lot> = lots().into_iter().filter(|lot| lot.name.starts_with(&name)).collect();
-    println!("lots of {ELEMENTS} elements at depth {DEPTH}; the four reports are the same");
-    for lot in &lots {
-        println!("  {}: {}", lot.name, checked(lot)?);
+/// The checked reports of lots, the lots' own figures and the times.
+fn print(rounds: u32, lots: &[Lot], versions: Versions) -> Result<(), String> {
+    for lot in lots {
+        let ([_, valid, invalid, undecided, refused], report) = checked(lot, versions)?;
+        let opened: i64 =
+            report.chunks_exact(RECORD_WORDS).map(|record| record[word::OPENED]).sum();
+        println!(
+            "  {}: valid {valid} invalid {invalid} undecided {undecided} refused {refused}, \
+             {:.1} cubes opened an element, checksum {:016x}",
+            lot.name,
+            opened as f64 / lot.elements() as f64,
+            checksum(&report)
+        );
     }
     println!("microseconds an element, best of {rounds} rounds");
     println!(
@@ -117,8 +117,8 @@ fn main() -> Result<(), String> {
         "lib/sparing",
         "lib/same"
     );
-    for lot in &lots {
-        let [library, direct, sparing, same] = best(lot, rounds);
+    for lot in lots {
+        let [library, direct, sparing, same] = best(lot, rounds, versions);
         println!(
             "  {:26} {library:8.3} {direct:8.3} {sparing:8.3} {same:12.3} {:11.2} {:11.2} {:9.2}",
             lot.name,
@@ -127,8 +127,88 @@ fn main() -> Result<(), String> {
             library / same
         );
     }
-    wide::print(rounds, &name)?;
+    Ok(())
+}
+
+fn main() -> Result<(), String> {
+    let rounds = match std::env::args().nth(1) {
+        None => 40,
+        Some(text) => text.parse().map_err(|_| format!("no number of rounds: {text}"))?,
+    };
+    let name = std::env::args().nth(2).unwrap_or_default();
+    let named = |lots: [Lot; 6]| lots.into_iter().filter(|lot| lot.name.starts_with(&name));
+    let lots: Vec<Lot> = named(lots::lots()).collect();
+    println!("lots of {ELEMENTS} elements at depth {DEPTH}; the four reports are the same");
+    print(rounds, &lots, versions::<i64>())?;
+    let wide: Vec<Lot> = named(wide::lots()).collect();
+    println!("larger parts, in numbers of two words; the four reports are the same");
+    print(rounds, &wide, versions::<i128>())?;
     reading::print(rounds, &name)?;
     writing::print(rounds, &name)?;
     slips::print(rounds, &lots)
+}
+
+#[cfg(test)]
+mod tests {
+    use super::*;
+    use lots::IN_ORDER;
+    use second::specimens::Shaker;
+
+    /// Elements of every kind that the second program draws, times as large, at the depths
+    /// below `depths`: the versions report what the library reports.
+    fn agree<N: Held>(seed: u64, times: i64, depths: u32) {
+        let mut shaker = Shaker::new(seed);
+        let mut met = [0; 3];
+        for turn in 0..10_000 {
+            let points = shaker.element().map(|x| i32::try_from(x * times).expect("in range"));
+            let lot = Lot {
+                name: "an element",
+                depth: turn % depths,
+                coordinates: points.to_vec(),
+                indices: IN_ORDER.to_vec(),
+            };
+            let (_, record) = checked(&lot, versions::<N>())
+                .unwrap_or_else(|what| panic!("{what} at depth {}: {points:?}", lot.depth));
+            met[record[word::KIND] as usize] += 1;
+        }
+        assert!(met.iter().all(|&kind| kind > 100), "{met:?}");
+    }
+
+    #[test]
+    fn reports_agree_in_one_word() {
+        agree::<i64>(41, 1, 4);
+    }
+
+    #[test]
+    fn reports_agree_in_two_words() {
+        agree::<i128>(42, 1, 6);
+        agree::<i128>(43, 256, 6);
+    }
+
+    /// The versions refuse the meshes that the library refuses.
+    #[test]
+    fn refusals_agree() {
+        let indices = [IN_ORDER; 2].concat();
+        let many = IN_ORDER.repeat(1001);
+        let meshes: [(u32, usize, &[u32], u32, usize); 9] = [
+            (1, 25, &indices, 9, 16),
+            (0, 24, &indices, 8, 18),
+            (2, 25, &indices[1..], 8, 16),
+            (2, 15_003, &indices[1..], 0, 16),
+            (0, 15_000, &indices, 0, 18),
+            (3, 24, &indices[1..], 0, 16),
+            (3, 24, &many, 0, 0),
+            (4, 24, &indices, 0, 16),
+            (0, 24, &many[8..], 0, 9000),
+        ];
+        for (number, coordinates, indices, depth, words) in meshes {
+            let coordinates = vec![brundhal::MAX_COORDINATE + 1; coordinates];
+            for (name, inspect) in versions::<i128>() {
+                let mut report = vec![7; words];
+                let answer = inspect(&coordinates, indices, depth, &mut report);
+                assert_eq!(answer[0], number, "{name}");
+                assert_eq!(report.iter().all(|&word| word == 7), number != 0, "{name}");
+            }
+        }
+    }
 }

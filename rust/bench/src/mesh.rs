@@ -2,23 +2,21 @@
 //! of a record, and the numbers that they reckon in, of one word or of two.  An
 //! ordinary program, without proofs.
 
+use brundhal::RECORD_WORDS;
 use std::iter::Sum;
 use std::ops::{Add, Sub};
 
-pub type Record = [i64; 8];
-
-/// With a value of two words, low and then high, before the count.
-pub type WideRecord = [i64; 9];
+pub type Record = [i64; RECORD_WORDS];
 
 /// A number that coefficients are held in.
 pub trait Held: Copy + Ord + Add<Output = Self> + Sub<Output = Self> + Sum {
     const ZERO: Self;
+    /// Within these no coefficient is past the number's end.
+    const MAX_COORDINATE: i32;
+    const MAX_DEPTH: u32;
 
-    /// With a value that is such a number.
-    type Record;
-
-    /// The record of its words 0 to 5, its value and the cubes opened.
-    fn record(words: [i64; 6], held: Self, opened: u32) -> Self::Record;
+    /// The number's low word and its high one.
+    fn words(self) -> [i64; 2];
     /// The product of two numbers of one word.
     fn product(x: i64, y: i64) -> Self;
     fn times(self, by: i64) -> Self;
@@ -26,12 +24,12 @@ pub trait Held: Copy + Ord + Add<Output = Self> + Sub<Output = Self> + Sum {
 
 impl Held for i64 {
     const ZERO: i64 = 0;
-
-    type Record = Record;
+    const MAX_COORDINATE: i32 = 4096;
+    const MAX_DEPTH: u32 = 3;
 
     #[inline(always)]
-    fn record([kind, level, a, b, c, number]: [i64; 6], held: i64, opened: u32) -> Record {
-        [kind, level, a, b, c, number, held, i64::from(opened)]
+    fn words(self) -> [i64; 2] {
+        [self, self >> 63]
     }
 
     #[inline(always)]
@@ -47,12 +45,12 @@ impl Held for i64 {
 
 impl Held for i128 {
     const ZERO: i128 = 0;
-
-    type Record = WideRecord;
+    const MAX_COORDINATE: i32 = brundhal::MAX_COORDINATE;
+    const MAX_DEPTH: u32 = brundhal::MAX_DEPTH;
 
     #[inline(always)]
-    fn record([kind, level, a, b, c, number]: [i64; 6], held: i128, opened: u32) -> WideRecord {
-        [kind, level, a, b, c, number, held as i64, (held >> 64) as i64, i64::from(opened)]
+    fn words(self) -> [i64; 2] {
+        [self as i64, (self >> 64) as i64]
     }
 
     #[inline(always)]
@@ -69,14 +67,14 @@ impl Held for i128 {
 /// Number, valid, invalid, undecided, refused.
 pub type Answer = [u32; 5];
 
-fn refusal(coordinates: &[i32], indices: &[u32], depth: u32, report: &[i64]) -> u32 {
-    if depth > 3 {
+fn refusal<N: Held>(coordinates: &[i32], indices: &[u32], depth: u32, report: &[i64]) -> u32 {
+    if depth > N::MAX_DEPTH {
         1
     } else if coordinates.len() % 3 != 0 || coordinates.len() > 3 * 5000 {
         2
     } else if indices.len() % 8 != 0 || indices.len() > 8 * 1000 {
         3
-    } else if report.len() != indices.len() {
+    } else if report.len() != indices.len() / 8 * RECORD_WORDS {
         4
     } else {
         0
@@ -96,20 +94,20 @@ fn pair(element: &[u32]) -> Option<(usize, usize)> {
 }
 
 /// The eight points of an element, or the record that refuses it.
-fn points(coordinates: &[i32], element: &[u32]) -> Result<[[i64; 3]; 8], Record> {
+fn points<N: Held>(coordinates: &[i32], element: &[u32]) -> Result<[[i64; 3]; 8], Record> {
     let nodes = coordinates.len() / 3;
     if let Some(place) = element.iter().position(|&index| index as usize >= nodes) {
-        return Err([5, place as i64 + 1, i64::from(element[place]), 0, 0, 0, 0, 0]);
+        return Err([5, place as i64 + 1, i64::from(element[place]), 0, 0, 0, 0, 0, 0]);
     }
     if let Some((lower, higher)) = pair(element) {
-        return Err([7, lower as i64, higher as i64, 0, 0, 0, 0, 0]);
+        return Err([7, lower as i64, higher as i64, 0, 0, 0, 0, 0, 0]);
     }
     let mut points = [[0; 3]; 8];
     for (place, &index) in element.iter().enumerate() {
         let node = &coordinates[3 * index as usize..][..3];
         for axis in 0..3 {
-            if !(-4096..=4096).contains(&node[axis]) {
-                return Err([6, place as i64 + 1, axis as i64 + 1, 0, 0, 0, 0, 0]);
+            if !(-N::MAX_COORDINATE..=N::MAX_COORDINATE).contains(&node[axis]) {
+                return Err([6, place as i64 + 1, axis as i64 + 1, 0, 0, 0, 0, 0, 0]);
             }
             points[place][axis] = i64::from(node[axis]);
         }
@@ -119,20 +117,20 @@ fn points(coordinates: &[i32], element: &[u32]) -> Result<[[i64; 3]; 8], Record>
 
 /// Inspects a mesh, with a version's way to find the record of eight points.
 #[inline(always)]
-pub fn inspect(
+pub fn inspect<N: Held>(
     coordinates: &[i32],
     indices: &[u32],
     depth: u32,
     report: &mut [i64],
     record: impl Fn(&[[i64; 3]; 8], u32) -> Record,
 ) -> Answer {
-    let number = refusal(coordinates, indices, depth, report);
+    let number = refusal::<N>(coordinates, indices, depth, report);
     if number != 0 {
         return [number, 0, 0, 0, 0];
     }
     let mut answer = [0; 5];
-    for (element, words) in indices.chunks_exact(8).zip(report.chunks_exact_mut(8)) {
-        let found = match points(coordinates, element) {
+    for (element, words) in indices.chunks_exact(8).zip(report.chunks_exact_mut(RECORD_WORDS)) {
+        let found = match points::<N>(coordinates, element) {
             Ok(points) => record(&points, depth),
             Err(refused) => refused,
         };
@@ -170,29 +168,25 @@ pub const CORNERS: [[u32; 3]; 8] =
     [[0, 0, 0], [1, 0, 0], [1, 1, 0], [0, 1, 0], [0, 0, 1], [1, 0, 1], [1, 1, 1], [0, 1, 1]];
 
 /// The record of a corner of some cube with J not above 0.
-pub fn invalid<N: Held>(
-    level: u32,
-    cube: [u32; 3],
-    corner: usize,
-    held: N,
-    opened: u32,
-) -> N::Record {
+pub fn invalid(level: u32, cube: [u32; 3], corner: usize, held: impl Held, opened: u32) -> Record {
     let [a, b, c] = [0, 1, 2].map(|axis| i64::from(cube[axis] + CORNERS[corner][axis]));
-    N::record([1, i64::from(level), a, b, c, corner as i64 + 1], held, opened)
+    let [low, high] = held.words();
+    [1, i64::from(level), a, b, c, corner as i64 + 1, low, high, i64::from(opened)]
 }
 
-pub fn valid<N: Held>(level: u32, opened: u32) -> N::Record {
-    N::record([0, i64::from(level), 0, 0, 0, 0], N::ZERO, opened)
+pub fn valid(level: u32, opened: u32) -> Record {
+    [0, i64::from(level), 0, 0, 0, 0, 0, 0, i64::from(opened)]
 }
 
 /// The record of the first coefficient not above 0 at the depth.
-pub fn undecided<N: Held>(
+pub fn undecided(
     depth: u32,
     cube: [u32; 3],
     number: usize,
-    held: N,
+    held: impl Held,
     opened: u32,
-) -> N::Record {
+) -> Record {
     let [a, b, c] = cube.map(i64::from);
-    N::record([2, i64::from(depth), a, b, c, number as i64], held, opened)
+    let [low, high] = held.words();
+    [2, i64::from(depth), a, b, c, number as i64, low, high, i64::from(opened)]
 }

@@ -6,7 +6,9 @@
 //! branches six ways, and its rows are written out, as in the library.  For numbers
 //! of one word and of two.
 
-use crate::mesh::{determinant, difference, invalid, sum, undecided, valid, Answer, Held, CORNERS};
+use crate::mesh::{
+    determinant, difference, invalid, sum, undecided, valid, Answer, Held, Record, CORNERS,
+};
 
 /// The table's rows without their zeros: where each row's list starts, the
 /// places in it and the numbers at them.
@@ -156,10 +158,15 @@ const ROWS: [[[usize; 3]; 9]; 3] = [
     ],
 ];
 
-pub type Net<N> = [N; 27];
+type Net<N> = [N; 27];
 
-pub fn inspect(coordinates: &[i32], indices: &[u32], depth: u32, report: &mut [i64]) -> Answer {
-    crate::mesh::inspect(coordinates, indices, depth, report, record::<i64>)
+pub fn inspect<N: Held>(
+    coordinates: &[i32],
+    indices: &[u32],
+    depth: u32,
+    report: &mut [i64],
+) -> Answer {
+    crate::mesh::inspect::<N>(coordinates, indices, depth, report, record::<N>)
 }
 
 /// J at corner a, whose neighbours are b, c and d; nodes go by their numbers.
@@ -226,7 +233,7 @@ fn lowest<N: Held>(net: &Net<N>) -> usize {
 
 /// One half in a direction, four times larger.
 #[inline(never)]
-pub fn halve<N: Held>(net: &Net<N>, direction: u32, side: u32, out: &mut Net<N>) {
+fn halve<N: Held>(net: &Net<N>, direction: u32, side: u32, out: &mut Net<N>) {
     match (direction, side) {
         (0, 0) => half::<N, 0, false>(net, out),
         (1, 0) => half::<N, 1, false>(net, out),
@@ -322,7 +329,7 @@ impl<N: Held> Pass<N> {
     }
 }
 
-pub fn record<N: Held>(n: &[[i64; 3]; 8], depth: u32) -> N::Record {
+fn record<N: Held>(n: &[[i64; 3]; 8], depth: u32) -> Record {
     let net: Net<N> = coefficients(n);
     let mut opened = 0;
     let mut level = 0;
@@ -331,7 +338,7 @@ pub fn record<N: Held>(n: &[[i64; 3]; 8], depth: u32) -> N::Record {
         pass.visit(&net, [0; 3], level);
         opened = pass.opened;
         match pass.found {
-            Found::Nothing => return valid::<N>(level, opened),
+            Found::Nothing => return valid(level, opened),
             Found::Corner { cube, corner, held } => {
                 return invalid(level, cube, corner, held, opened);
             }

@@ -5,14 +5,17 @@ use crate::direct;
 use crate::lots::{self, DEPTH, ELEMENTS};
 use crate::reader::{read_by_runs, Space};
 use crate::timing::{print_head, print_row, Version};
+use brundhal::RECORD_WORDS;
 use second::lot::{Lot, MOST_BYTES};
 use std::hint::black_box;
 use std::io::{self, Write};
 
 type Slip = fn(&[u8], &mut [u8; brundhal::SLIP_BYTES]) -> usize;
 
-/// The ordinary version: reads by runs, inspects by direct formulas, and prints
-/// each line as Rust prints numbers.
+const MOST_PRINTED: usize = 900;
+
+/// The ordinary version: reads by runs, inspects by direct formulas in numbers of one
+/// word, and prints each line as Rust prints numbers.
 fn plain(file: &[u8], out: &mut [u8; brundhal::SLIP_BYTES]) -> usize {
     let mut rest = &mut out[..];
     print_slip(file, &mut rest).expect("a slip fits its space");
@@ -25,15 +28,18 @@ fn print_slip(file: &[u8], out: &mut impl Write) -> io::Result<()> {
     if number != 0 {
         return writeln!(out, "refused {number}");
     }
-    let [nodes, elements, groups] = [3 * nodes, 8 * elements, groups].map(|count| count as usize);
-    let (coordinates, indices) = (&space.nodes[..nodes], &space.elements[..elements]);
-    let mut report = vec![0; elements];
-    let answer = direct::inspect(coordinates, indices, DEPTH, &mut report);
+    let [nodes, elements, groups] = [nodes, elements, groups].map(|count| count as usize);
+    if elements > MOST_PRINTED {
+        return writeln!(out, "refused 26");
+    }
+    let (coordinates, indices) = (&space.nodes[..3 * nodes], &space.elements[..8 * elements]);
+    let mut report = vec![0; RECORD_WORDS * elements];
+    let answer = direct::inspect::<i64, false>(coordinates, indices, DEPTH, &mut report);
     out.write_all(b"lot ")?;
     out.write_all(label)?;
     out.write_all(b"\n")?;
     let (mut group, mut end, mut name) = (0, 0, label);
-    for (element, record) in (0..).zip(report.chunks_exact(8)) {
+    for (element, record) in (0..).zip(report.chunks_exact(RECORD_WORDS)) {
         while group < groups && space.offsets[group] == element {
             let start = end;
             end += space.lengths[group] as usize;
@@ -112,6 +118,7 @@ pub fn print(rounds: u32, lots: &[lots::Lot]) -> Result<(), String> {
 #[cfg(test)]
 mod tests {
     use super::*;
+    use crate::lots::IN_ORDER;
 
     /// The ordinary version prints what the library prints of every prefix of a
     /// lot, and of lots with every kind of record.
@@ -121,8 +128,11 @@ mod tests {
         for length in 0..=grouped.len() {
             assert!(same(&grouped[..length]));
         }
-        let unlabelled = Lot::new(b"", &[[0; 3]; 8], &[[0, 1, 2, 3, 4, 5, 6, 7]; 2]);
+        let unlabelled = Lot::new(b"", &[[0; 3]; 8], &[IN_ORDER; 2]);
         assert!(same(&unlabelled.file()));
         assert!(same(&unlabelled.group(1, b"").group(1, b" ").group(2, b"x").file()));
+        for elements in [MOST_PRINTED, MOST_PRINTED + 1, 1000] {
+            assert!(same(&Lot::new(b"", &[[0; 3]; 8], &vec![IN_ORDER; elements]).file()));
+        }
     }
 }

@@ -4,7 +4,7 @@
 
 #![deny(warnings)]
 
-use brundhal::{GroupSpace, Groups, Inspection, Lot};
+use brundhal::{kind, word, GroupSpace, Groups, Inspection, Lot};
 use std::process::ExitCode;
 
 /// Each element's name, a part of the lot's names or its label, and its verdict.
@@ -12,10 +12,10 @@ fn print_elements(lot: Lot, groups: Groups, report: &[i64]) -> Result<(), String
     for (element, record) in (0..).zip(report.chunks_exact(brundhal::RECORD_WORDS)) {
         let name = brundhal::name_of(lot.label, groups, lot.elements, element)
             .map_err(|number| format!("name refused {number}"))?;
-        let verdict = match record[0] {
-            0 => "valid",
-            1 => "invalid",
-            2 => "undecided",
+        let verdict = match record[word::KIND] {
+            kind::VALID => "valid",
+            kind::INVALID => "invalid",
+            kind::UNDECIDED => "undecided",
             _ => "refused",
         };
         println!("element {} of {}: {verdict}", element + 1, name.bytes().escape_ascii());
@@ -50,7 +50,7 @@ fn inspect(file: &[u8]) -> Result<(), String> {
     // and eight indices an element.
     let coordinates = &nodes[..3 * lot.nodes as usize];
     let indices = &elements[..8 * lot.elements as usize];
-    let mut report = vec![0; indices.len()];
+    let mut report = vec![0; brundhal::RECORD_WORDS * lot.elements as usize];
     let answer = brundhal::inspect(coordinates, indices, 3, &mut report);
     if answer.number != 0 {
         return Err(format!("mesh refused {}", answer.number));

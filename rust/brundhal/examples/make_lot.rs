@@ -20,6 +20,7 @@
 
 #![deny(warnings)]
 
+use brundhal::refusal;
 use std::ffi::OsString;
 use std::fs;
 use std::io::{self, Read, Write};
@@ -122,10 +123,10 @@ impl Lot {
 /// text fit together, and the space is enough for the longest file.
 fn in_words(number: u32) -> &'static str {
     match number {
-        23 => "the label or a group's name is longer than 32 bytes",
-        25 => "the label or a group's name has a byte that is not in 32..126",
-        26 => "there are more than 1,000 elements",
-        20 => "the file would be longer than 65,536 bytes",
+        refusal::LENGTH => "the label or a group's name is longer than 32 bytes",
+        refusal::BYTE => "the label or a group's name has a byte that is not in 32..126",
+        refusal::TOO_MANY => "there are more than 1,000 elements",
+        refusal::LONG_FILE => "the file would be longer than 65,536 bytes",
         _ => "the lot cannot be written",
     }
 }

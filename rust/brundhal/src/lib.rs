@@ -20,9 +20,81 @@ mod tests;
 
 pub use number::Number;
 
-/// Words in a record, and report words an element: 01, "The report space is
-/// signed 64-bit, eight words per element."
-pub const RECORD_WORDS: usize = 8;
+/// The version that this crate is written for, as the header's `BRUNDHAL_VERSION`.  A
+/// library whose `version()` differs has other layouts, limits or answers.
+pub const VERSION: u32 = 2;
+
+/// 02: "Raise coordinates to -1,048,576..1,048,576 and depth to 8".
+pub const MAX_COORDINATE: i32 = 1_048_576;
+pub const MAX_DEPTH: u32 = 8;
+
+/// 01: "at most 5,000 nodes", "at most 1,000 elements".
+pub const MAX_NODES: usize = 5000;
+pub const MAX_ELEMENTS: usize = 1000;
+
+/// The most elements on a slip.  02: "a program holding a report keeps to 900 elements;
+/// the slip answers 26 to a longer lot without fault."
+pub const SLIP_ELEMENTS: usize = 900;
+
+/// Words in a record, and report words an element.  02: "a record is nine words."
+pub const RECORD_WORDS: usize = 9;
+
+/// Where the words of a record stand.
+pub mod word {
+    pub const KIND: usize = 0;
+    pub const LEVEL: usize = 1;
+    pub const A: usize = 2;
+    pub const B: usize = 3;
+    pub const C: usize = 4;
+    pub const NUMBER: usize = 5;
+    pub const VALUE_LOW: usize = 6;
+    pub const VALUE_HIGH: usize = 7;
+    pub const OPENED: usize = 8;
+}
+
+/// The kind of a record, its first word; any other is the refusal 5, 6 or 7.
+pub mod kind {
+    pub const VALID: i64 = 0;
+    pub const INVALID: i64 = 1;
+    pub const UNDECIDED: i64 = 2;
+}
+
+/// The numbers of refusals: 1 to 4 of a mesh, 5 to 7 of an element, 20 to 28 of lots
+/// and names.
+pub mod refusal {
+    /// The depth is above `MAX_DEPTH`.
+    pub const DEPTH: u32 = 1;
+    /// The coordinates are no multiple of three, or of more than `MAX_NODES` nodes.
+    pub const NODES: u32 = 2;
+    /// The indices are no multiple of eight, or of more than `MAX_ELEMENTS` elements.
+    pub const ELEMENTS: u32 = 3;
+    /// The report space is not exactly `RECORD_WORDS` words an element.
+    pub const REPORT: u32 = 4;
+    /// An index names no node.
+    pub const INDEX: u32 = 5;
+    /// A coordinate is past `MAX_COORDINATE`.
+    pub const COORDINATE: u32 = 6;
+    /// An index stands in two places.
+    pub const TWICE: u32 = 7;
+    /// The file is longer than `LOT_BYTES`.
+    pub const LONG_FILE: u32 = 20;
+    /// The file ends inside a record.
+    pub const CUT_SHORT: u32 = 21;
+    /// The mark is unknown.
+    pub const MARK: u32 = 22;
+    /// The length is not one of the mark, or a label or name is too long.
+    pub const LENGTH: u32 = 23;
+    /// A record is out of place, or the groups do not fit together.
+    pub const OUT_OF_PLACE: u32 = 24;
+    /// A byte of a label or name is not in 32..126.
+    pub const BYTE: u32 = 25;
+    /// More than `MAX_ELEMENTS` elements, or for a slip more than `SLIP_ELEMENTS`.
+    pub const TOO_MANY: u32 = 26;
+    /// The lent space is too small.
+    pub const SPACE: u32 = 27;
+    /// There is no such element.
+    pub const NO_ELEMENT: u32 = 28;
+}
 
 /// The longest lot file.  02: "one file of at most 65,536 bytes."
 pub const LOT_BYTES: usize = 65_536;
@@ -31,7 +103,7 @@ pub const LOT_BYTES: usize = 65_536;
 /// holds, three words each, and 1,000 elements are allowed, eight words each; a
 /// file holds 16,382 groups at most, and 58,244 bytes of their names.
 pub const LOT_NODE_WORDS: usize = 3 * 4095;
-pub const LOT_ELEMENT_WORDS: usize = 8 * 1000;
+pub const LOT_ELEMENT_WORDS: usize = 8 * MAX_ELEMENTS;
 pub const LOT_GROUPS: usize = 16_382;
 pub const LOT_NAME_BYTES: usize = 58_244;
 
@@ -42,6 +114,7 @@ pub const SLIP_BYTES: usize = 262_144;
 /// counts: valid, invalid, undecided, refused."
 #[repr(C)]
 #[derive(Clone, Copy, Debug, Default, PartialEq, Eq)]
+#[must_use]
 pub struct Inspection {
     /// 0, or 1 to 4 for a mesh that is refused; the counts are then 0.
     pub number: u32,
@@ -54,13 +127,14 @@ pub struct Inspection {
 /// The answer of the bounds service.
 #[repr(C)]
 #[derive(Clone, Copy, Debug, Default, PartialEq, Eq)]
+#[must_use]
 pub struct Bounds {
     /// 0, or 1 or 6 for points that are refused; both bounds are then 0.
     pub number: u32,
     /// The least coefficient of all cubes of the depth, times 8 * 64^depth.
-    pub low: i64,
+    pub low: Number,
     /// The least J over all grid points of the depth, times 8 * 64^depth.
-    pub high: i64,
+    pub high: Number,
 }
 
 /// A cube's address.  01: "its level and the grid numbers of its lowest
@@ -76,6 +150,7 @@ pub struct Address {
 
 /// Where a move of an address led.
 #[derive(Clone, Copy, Debug, PartialEq, Eq)]
+#[must_use]
 pub enum Moved {
     To(Address),
     /// 01: "A move that can't be made [...] hands back the same address and
@@ -121,6 +196,7 @@ pub struct GroupSpace<'a> {
 
 /// The answer of reading a lot file.
 #[derive(Clone, Copy, Debug, PartialEq, Eq)]
+#[must_use]
 pub struct Lot<'a> {
     /// 0, or 20 to 27 for a lot that is refused; all counts are then 0 and the
     /// label is empty.
@@ -139,6 +215,7 @@ pub struct Lot<'a> {
 /// The answer of writing a lot file.
 #[repr(C)]
 #[derive(Clone, Copy, Debug, Default, PartialEq, Eq)]
+#[must_use]
 pub struct Written {
     /// 0, or 2, 3, 20 or 23 to 27 for a lot that is refused.
     pub number: u32,
@@ -157,6 +234,7 @@ pub enum Name<'a> {
 }
 
 impl<'a> Name<'a> {
+    #[must_use]
     pub fn bytes(self) -> &'a [u8] {
         match self {
             Name::Group(bytes) | Name::Label(bytes) => bytes,
@@ -203,6 +281,7 @@ mod raw {
     }
 
     extern "C" {
+        pub fn brundhal_version() -> u32;
         pub fn brundhal_inspect(
             coordinates: *const i32,
             coordinates_len: usize,
@@ -275,8 +354,16 @@ mod raw {
     }
 }
 
+/// The version of the library that is linked; all else here is right only where it is
+/// `VERSION`.
+#[must_use]
+pub fn version() -> u32 {
+    // A number out.
+    unsafe { raw::brundhal_version() }
+}
+
 /// Inspects a mesh: three coordinates a node, eight indices an element, a
-/// depth, and report space of eight words an element.
+/// depth, and report space of `RECORD_WORDS` words an element.
 ///
 /// An accepted mesh has every word of the report written; a refused one has
 /// none.
@@ -296,13 +383,22 @@ pub fn inspect(coordinates: &[i32], indices: &[u32], depth: u32, report: &mut [i
     }
 }
 
-/// The low and the high bound of eight points, x, y, z of each, at a depth.
+/// The value of a record, times 8 * 64^level: J of an invalid one's point, the
+/// coefficient of an undecided one; else 0.
+#[must_use]
+pub fn record_value(record: &[i64; RECORD_WORDS]) -> Number {
+    Number::from_words(record[word::VALUE_LOW], record[word::VALUE_HIGH])
+}
+
+/// The low and the high bound of eight points, x, y, z of each, at a depth.  All 8^depth
+/// cubes of the depth are gone through; at depth 8 that takes time.
 pub fn bounds(points: &[i32; 24], depth: u32) -> Bounds {
     // 24 coordinates, borrowed for the call and only read.
     unsafe { raw::brundhal_bounds(points.as_ptr(), depth) }
 }
 
 /// The stamp of an inspection's answer; a refused mesh has none.
+#[must_use]
 pub fn stamp(answer: Inspection) -> Option<Stamp> {
     // Numbers in, a number out.
     match unsafe { raw::brundhal_stamp(answer) } {
@@ -416,6 +512,7 @@ pub fn name_of<'a>(
 
 /// Prints the slip of a lot file to the front of lent space, and answers its
 /// length; the space past it is untouched.  The call needs about 340 KiB of stack.
+#[must_use]
 pub fn slip(file: &[u8], out: &mut [u8; SLIP_BYTES]) -> usize {
     // A slice with its own length, borrowed for the call and only read, and
     // `SLIP_BYTES` bytes that are written.

@@ -1,10 +1,11 @@
 //! The worked cases of 01 and the figures of the paper.
 
 use crate::check::report_words;
-use crate::draw::narrow;
-use crate::program::IN_ORDER;
+use crate::draw::{narrow, RANGE};
+use crate::program::{Record, IN_ORDER, RECORD_WORDS};
 use crate::question::Question;
 use second::specimens::{cube, worked, Points};
+use second::two_words;
 
 /// A mesh of one element, with what 01 prints of it.
 pub struct Case {
@@ -12,13 +13,13 @@ pub struct Case {
     pub points: [i32; 24],
     pub indices: [u32; 8],
     /// Depths, and the record printed for them.
-    pub records: Vec<(Vec<u32>, [i64; 8])>,
+    pub records: Vec<(Vec<u32>, Record)>,
     /// A depth with the bounds printed for it.
-    pub bounds: Option<(u32, i64, i64)>,
+    pub bounds: Option<(u32, i128, i128)>,
 }
 
 impl Case {
-    fn new(name: &'static str, points: Points, records: &[(&[u32], [i64; 8])]) -> Case {
+    fn new(name: &'static str, points: Points, records: &[(&[u32], Record)]) -> Case {
         Case {
             name,
             points: points.map(|x| i32::try_from(x).expect("a coordinate of 32 bits")),
@@ -32,7 +33,7 @@ impl Case {
     pub fn question(&self, depth: u32) -> Question {
         Question::Inspect {
             depth,
-            space: 8,
+            space: RECORD_WORDS,
             coordinates: self.points.to_vec(),
             indices: self.indices.to_vec(),
         }
@@ -40,7 +41,7 @@ impl Case {
 
     /// Whether the eight points can be asked for as an element.
     pub fn is_whole(&self) -> bool {
-        self.indices == IN_ORDER && self.points.iter().all(|x| x.unsigned_abs() <= 4096)
+        self.indices == IN_ORDER && self.points.iter().all(|x| i64::from(*x).abs() <= RANGE)
     }
 
     fn not_as_printed(&self, question: &Question, words: &[i64]) -> Option<String> {
@@ -51,7 +52,7 @@ impl Case {
             }
             Question::Bounds { depth, points } if *points == self.points => {
                 let (_, low, high) = self.bounds.filter(|(at, ..)| at == depth)?;
-                (words, vec![0, low, high])
+                (words, [&[0], &two_words(low)[..], &two_words(high)].concat())
             }
             _ => return None,
         };
@@ -64,42 +65,46 @@ pub fn not_as_printed(question: &Question, words: &[i64]) -> Option<String> {
     cases().iter().find_map(|case| case.not_as_printed(question, words))
 }
 
-const ALL: [u32; 4] = [0, 1, 2, 3];
+const ALL: [u32; 9] = [0, 1, 2, 3, 4, 5, 6, 7, 8];
 
-/// The cases A to I, and the cube from -4,096 to 4,096.  A record that is
-/// printed for the depth of a decision holds at every greater depth as well.
+/// The cases A to I, and the cube from -1,048,576 to 1,048,576, in the layout of 02's
+/// No. 8.  A record that is printed for the depth of a decision holds at every greater
+/// depth as well.
 pub fn cases() -> Vec<Case> {
     let [a, b, c, d, e, f, g] = worked().map(|(_, points)| points);
     let mut d = Case::new(
         "D",
         d,
-        &[(&[0], [2, 0, 0, 0, 0, 13, 0, 1]), (&[1, 2, 3], [0, 1, 0, 0, 0, 0, 0, 9])],
+        &[(&ALL[..1], [2, 0, 0, 0, 0, 13, 0, 0, 1]), (&ALL[1..], [0, 1, 0, 0, 0, 0, 0, 0, 9])],
     );
     d.bounds = Some((1, 1024, 1024));
     let mut f = Case::new(
         "F",
         f,
-        &[(&[0], [2, 0, 0, 0, 0, 13, -64, 1]), (&[3], [2, 3, 0, 0, 2, 13, -262_144, 169])],
+        &[(&[0], [2, 0, 0, 0, 0, 13, -64, -1, 1]), (&[3], [2, 3, 0, 0, 2, 13, -262_144, -1, 169])],
     );
     f.bounds = Some((3, -262_144, 131_072));
-    let mut h = Case::new("H", a, &[(&ALL, [6, 3, 2, 0, 0, 0, 0, 0])]);
-    h.points[3 * 2 + 1] = 4097;
-    let mut i = Case::new("I", a, &[(&ALL, [5, 4, 8, 0, 0, 0, 0, 0])]);
+    let mut h = Case::new("H", a, &[(&ALL, [6, 3, 2, 0, 0, 0, 0, 0, 0])]);
+    h.points[3 * 2 + 1] = 1_048_577;
+    let mut i = Case::new("I", a, &[(&ALL, [5, 4, 8, 0, 0, 0, 0, 0, 0])]);
     i.indices[3] = 8;
     vec![
-        Case::new("A", a, &[(&ALL, [0, 0, 0, 0, 0, 0, 0, 1])]),
-        Case::new("B", b, &[(&ALL, [1, 0, 0, 0, 0, 1, 0, 1])]),
-        Case::new("C", c, &[(&ALL, [1, 0, 0, 0, 0, 1, -8, 1])]),
+        Case::new("A", a, &[(&ALL, [0, 0, 0, 0, 0, 0, 0, 0, 1])]),
+        Case::new("B", b, &[(&ALL, [1, 0, 0, 0, 0, 1, 0, 0, 1])]),
+        Case::new("C", c, &[(&ALL, [1, 0, 0, 0, 0, 1, -8, -1, 1])]),
         d,
         Case::new(
             "E",
             e,
-            &[(&[0], [2, 0, 0, 0, 0, 13, -32, 1]), (&[1, 2, 3], [1, 1, 0, 0, 1, 5, 0, 2])],
+            &[
+                (&ALL[..1], [2, 0, 0, 0, 0, 13, -32, -1, 1]),
+                (&ALL[1..], [1, 1, 0, 0, 1, 5, 0, 0, 2]),
+            ],
         ),
         f,
-        Case::new("G", g, &[(&ALL, [1, 0, 0, 0, 0, 1, 0, 1])]),
+        Case::new("G", g, &[(&ALL, [1, 0, 0, 0, 0, 1, 0, 0, 1])]),
         h,
-        Case::new("-4096..4096", cube(-4096, 4096), &[(&ALL, [0, 0, 0, 0, 0, 0, 0, 1])]),
+        Case::new("-1048576..1048576", cube(-RANGE, RANGE), &[(&ALL, [0, 0, 0, 0, 0, 0, 0, 0, 1])]),
         i,
     ]
 }
@@ -111,7 +116,7 @@ pub struct Figure {
     pub name: &'static str,
     pub nodes: [[f64; 3]; 8],
     /// Units to one of the figure's.
-    pub scales: [f64; 5],
+    pub scales: [f64; 6],
 }
 
 /// The whole-number points of a figure at a scale, node 1 at the origin: each
@@ -122,7 +127,7 @@ pub fn rounded(figure: &Figure, scale: f64) -> [i32; 24] {
         let from_node_1 = figure.nodes[place / 3][place % 3] - figure.nodes[0][place % 3];
         *x = (scale * from_node_1).round() as i64;
     }
-    narrow(&points)
+    narrow(points)
 }
 
 pub fn figures() -> [Figure; 3] {
@@ -139,7 +144,7 @@ pub fn figures() -> [Figure; 3] {
                 [1.77365642274365, 1.25103990471942, 1.83300604452892],
                 [0.0769922201302364, 0.940424880836765, 1.45521546591891],
             ],
-            scales: [10.0, 100.0, 500.0, 1000.0, 2200.0],
+            scales: [10.0, 100.0, 500.0, 1000.0, 2200.0, 500_000.0],
         },
         Figure {
             name: "Figure 6",
@@ -153,7 +158,7 @@ pub fn figures() -> [Figure; 3] {
                 [0.509917, 0.0214216, 1.55322],
                 [0.40783, 1.73452, 1.93234],
             ],
-            scales: [10.0, 100.0, 500.0, 1000.0, 2080.0],
+            scales: [10.0, 100.0, 500.0, 1000.0, 2080.0, 500_000.0],
         },
         Figure {
             name: "Figure 7",
@@ -167,7 +172,7 @@ pub fn figures() -> [Figure; 3] {
                 [0.501998962370677, 0.322367015594958, -0.0116275521103549],
                 [0.487166966765343, 0.308816797387616, 0.0115054780724508],
             ],
-            scales: [1000.0, 4000.0, 10_000.0, 40_000.0, 80_000.0],
+            scales: [1000.0, 4000.0, 10_000.0, 40_000.0, 80_000.0, 20_000_000.0],
         },
     ]
 }

@@ -1,15 +1,19 @@
 //! One question to both programs: their answers word by word, what 01 says over
 //! depths, and what 02 says of stamps and of writing and reading.
 
-use crate::program::{stamped, Answer, AtDepth, Inspects, Program, Reckoned, Stamp, RECKONED};
+use crate::draw::DEPTH;
+use crate::program::{
+    stamped, Answer, AtDepth, Bounds, Inspects, Program, Reckoned, Record, Stamp, IN_ORDER,
+    RECKONED, RECORD_WORDS,
+};
 use crate::question::Question;
 use lent::{Fenced, FENCE};
 use second::specimens::Shaker;
+use second::two_words;
 use std::fmt;
 
 mod lent;
 mod lots;
-mod wide;
 
 pub use lots::ample_space;
 
@@ -49,7 +53,8 @@ struct Inspected {
     space: Fenced<i64>,
 }
 
-fn inspected(
+/// With report space of so many words.
+fn inspected_in(
     program: &dyn Inspects,
     coordinates: &[i32],
     indices: &[u32],
@@ -59,6 +64,16 @@ fn inspected(
     let mut space = Fenced::new(words);
     let answer = program.inspect(coordinates, indices, depth, space.lent());
     Inspected { answer, stamp: program.stamp(answer), space }
+}
+
+/// With the report space that the elements need.
+fn inspected(
+    program: &dyn Inspects,
+    coordinates: &[i32],
+    indices: &[u32],
+    depth: u32,
+) -> Inspected {
+    inspected_in(program, coordinates, indices, depth, indices.len() / 8 * RECORD_WORDS)
 }
 
 fn inspected_words(seen: &Inspected) -> Words {
@@ -76,39 +91,56 @@ fn inspected_name(place: usize) -> String {
         Some(at) if at < FENCE => "a word before the report space".to_string(),
         Some(at) => {
             let at = at - FENCE;
-            format!("report word {at} from 0 (word {} of element {})", at % 8, at / 8)
+            let (element, word) = (at / RECORD_WORDS, at % RECORD_WORDS);
+            format!("report word {at} from 0 (word {word} of element {element})")
         }
     }
 }
 
-const PER_DEPTH: usize = 16;
+/// The words of an inspection of one element, answer and record, and those of bounds.
+const PER_DEPTH: usize = 5 + RECORD_WORDS;
+const PER_BOUNDS: usize = 5;
 
+const BOUNDS: [&str; PER_BOUNDS] =
+    ["number", "low's low word", "low's high word", "high's low word", "high's high word"];
+
+/// The number of depths, the inspection at each, and the bounds at those that have them.
 fn over_depths_words(seen: &[AtDepth]) -> Words {
-    let mut words = Vec::with_capacity(PER_DEPTH * seen.len());
+    let depths = seen.len();
+    let mut words = vec![depths as i64];
     for at in seen {
         words.extend(at.answer.iter().copied().map(i64::from));
         words.extend(at.record);
-        words.extend([i64::from(at.bounds.0), at.bounds.1, at.bounds.2]);
     }
-    Words { words, name: Box::new(over_depths_name) }
+    words.extend(seen.iter().filter_map(|at| at.bounds).flat_map(bounds_in_words));
+    Words { words, name: Box::new(move |place| over_depths_name(depths, place)) }
 }
 
-fn over_depths_name(place: usize) -> String {
-    let (depth, at) = (place / PER_DEPTH, place % PER_DEPTH);
-    let name = match at {
-        0..=4 => ANSWER[at].to_string(),
-        5..=12 => format!("record word {}", at - 5),
-        13 => "number of the bounds".to_string(),
-        14 => "low".to_string(),
-        _ => "high".to_string(),
+fn over_depths_name(depths: usize, place: usize) -> String {
+    let Some(at) = place.checked_sub(1) else {
+        return "number of depths".to_string();
     };
-    format!("{name} at depth {depth}")
+    match at.checked_sub(depths * PER_DEPTH) {
+        Some(at) => format!("bounds' {} at depth {}", BOUNDS[at % PER_BOUNDS], at / PER_BOUNDS),
+        None => {
+            let (depth, at) = (at / PER_DEPTH, at % PER_DEPTH);
+            match at.checked_sub(5) {
+                Some(word) => format!("record word {word} at depth {depth}"),
+                None => format!("{} at depth {depth}", ANSWER[at]),
+            }
+        }
+    }
 }
 
-fn bounds_words((number, low, high): (u32, i64, i64)) -> Words {
+fn bounds_in_words((number, low, high): Bounds) -> [i64; PER_BOUNDS] {
+    let ([a, b], [c, d]) = (two_words(low), two_words(high));
+    [number.into(), a, b, c, d]
+}
+
+fn bounds_words(bounds: Bounds) -> Words {
     Words {
-        words: vec![i64::from(number), low, high],
-        name: Box::new(|place| ["number", "low", "high"][place].to_string()),
+        words: bounds_in_words(bounds).to_vec(),
+        name: Box::new(|place| BOUNDS[place].to_string()),
     }
 }
 
@@ -138,7 +170,7 @@ fn stamp_words(stamp: Option<Stamp>) -> Words {
 /// The low word of each answer, and then its high one.
 fn reckoned_words(answers: Reckoned) -> Words {
     Words {
-        words: answers.iter().flat_map(|&x| [x as i64, (x >> 64) as i64]).collect(),
+        words: answers.iter().flat_map(|&x| two_words(x)).collect(),
         name: Box::new(|place| {
             format!("{}, {} word", RECKONED[place / 2], ["low", "high"][place % 2])
         }),
@@ -157,9 +189,33 @@ fn difference(first: &Words, second: &Words) -> Option<String> {
 
 // ------------------------------------------------------------- over depths --
 
-/// The largest depth: the first program is held over the depths up to it,
-/// whatever depth a question asks of both.
-const LARGEST_DEPTH: u32 = 3;
+/// The depth to which the first program is held on every element, records and bounds;
+/// past it the bounds take long, and so do the records of some undecided elements.
+const SHALLOW: u32 = 3;
+
+/// How deep the first program is held on a mesh that is asked at a depth: to the largest
+/// one where this depth leaves nothing undecided.
+fn depth_held(program: &dyn Inspects, coordinates: &[i32], indices: &[u32], depth: u32) -> u32 {
+    let depth = depth.max(SHALLOW);
+    let [_, _, _, undecided, _] = inspected(program, coordinates, indices, depth).answer;
+    if undecided == 0 {
+        DEPTH
+    } else {
+        depth
+    }
+}
+
+/// The first program on one element: its records to `depth` at least, its bounds to
+/// `bounds` at least.
+fn held_element(
+    program: &dyn Inspects,
+    points: &[i32; 24],
+    depth: u32,
+    bounds: u32,
+) -> Vec<AtDepth> {
+    let depth = depth_held(program, points, &IN_ORDER, depth.max(bounds));
+    program.over_depths(points, depth, bounds.max(SHALLOW))
+}
 
 /// 01's demand 3 for one element, from the lesser depth's words and the next
 /// depth's: a decision stays, word for word, and so does a refusal, which reads
@@ -171,12 +227,14 @@ fn between_depths(lesser: &AtDepth, greater: &AtDepth) -> Option<String> {
         let (old, new) = (lesser.record, greater.record);
         return Some(format!("{old:?} became {new:?} at a greater depth"));
     }
-    let scaled = |bound: i64| 64 * i128::from(bound);
-    let ((_, low, high), (_, next_low, next_high)) = (lesser.bounds, greater.bounds);
-    if scaled(low) > i128::from(next_low) {
+    let (Some((_, low, high)), Some((_, next_low, next_high))) = (lesser.bounds, greater.bounds)
+    else {
+        return None;
+    };
+    if low.saturating_mul(64) > next_low {
         return Some(format!("64 times low {low} is above the next depth's {next_low}"));
     }
-    if i128::from(next_high) > scaled(high) {
+    if next_high > high.saturating_mul(64) {
         return Some(format!("high {next_high} is above 64 times the depth before's {high}"));
     }
     None
@@ -186,7 +244,7 @@ fn between_depths(lesser: &AtDepth, greater: &AtDepth) -> Option<String> {
 /// low > 0, undecided otherwise; a refused element has the number that it is refused
 /// with in their place.
 fn verdict_and_bounds(at: &AtDepth) -> Option<String> {
-    let (number, low, high) = at.bounds;
+    let (number, low, high) = at.bounds?;
     let kind = match (number, high <= 0, low > 0) {
         (0, true, _) => 1,
         (0, false, true) => 0,
@@ -197,8 +255,10 @@ fn verdict_and_bounds(at: &AtDepth) -> Option<String> {
     apart.then(|| format!("record {:?} with bounds {number}, {low} and {high}", at.record))
 }
 
-/// Grid points drawn at each of the levels 4, 5 and 6.
-pub const POINTS_A_LEVEL: usize = 16;
+/// Levels past the largest depth at which J is tested, and points drawn at each.  64^10 J
+/// fits 128 bits: in the range J is 32 * (2^20)^3 at most.
+pub const FINER_LEVELS: [u32; 2] = [DEPTH + 1, DEPTH + 2];
+pub const POINTS_A_LEVEL: usize = 24;
 
 /// Demand 3 of a valid element: J is above 0 at the grid points of every level,
 /// past the largest depth too.  Some are drawn, often on a face or an edge, by
@@ -206,7 +266,7 @@ pub const POINTS_A_LEVEL: usize = 16;
 fn not_positive(points: &[i32; 24]) -> Option<String> {
     let mixed = |seed: u64, &x: &i32| seed.wrapping_mul(0x9E37_79B9_7F4A_7C15) ^ x as u64;
     let mut shaker = Shaker::new(points.iter().fold(0, mixed));
-    for level in [4, 5, 6].repeat(POINTS_A_LEVEL) {
+    for level in FINER_LEVELS.repeat(POINTS_A_LEVEL) {
         let steps = 1i64 << level;
         let mut number = || shaker.between(-steps / 2, steps * 3 / 2).clamp(0, steps) as u64;
         let (a, b, c) = (number(), number(), number());
@@ -234,15 +294,17 @@ fn stamp_and_report(mesh: &Inspected) -> Option<String> {
     apart.then(|| format!("stamp {:?}, and the records give {by_records:?}", mesh.stamp))
 }
 
-/// The stamps of an accepted mesh at all depths, and demand 3 for its elements: their
-/// records in the reports of all depths, and the bounds of their points.
+/// The stamps of an accepted mesh, asked at a depth, over depths, and demand 3 for its
+/// elements: their records in all reports, and the bounds of their points.
 fn mesh_over_depths_fault(
     program: &dyn Inspects,
     coordinates: &[i32],
     indices: &[u32],
+    depth: u32,
 ) -> Option<String> {
-    let at = |depth| inspected(program, coordinates, indices, depth, indices.len());
-    let meshes: Vec<Inspected> = (0..=LARGEST_DEPTH).map(at).collect();
+    let depth = depth_held(program, coordinates, indices, depth);
+    let at = |depth| inspected(program, coordinates, indices, depth);
+    let meshes: Vec<Inspected> = (0..=depth).map(at).collect();
     let stamps = meshes.iter().find_map(stamp_and_report);
     stamps.or_else(|| elements_over_depths_fault(program, coordinates, indices, &meshes))
 }
@@ -259,7 +321,7 @@ fn points_by_indices(coordinates: &[i32], element: &[u32]) -> Result<[i32; 24], 
     Ok(points)
 }
 
-/// Demand 3 for every element of an accepted mesh, seen at every depth.
+/// Demand 3 for every element of an accepted mesh, seen over depths.
 fn elements_over_depths_fault(
     program: &dyn Inspects,
     coordinates: &[i32],
@@ -270,11 +332,11 @@ fn elements_over_depths_fault(
         let points = points_by_indices(coordinates, element);
         let at_depth = |(depth, mesh): (u32, &Inspected)| AtDepth {
             answer: mesh.answer,
-            record: std::array::from_fn(|word| mesh.space.inner()[8 * number + word]),
-            bounds: match points {
+            record: std::array::from_fn(|word| mesh.space.inner()[RECORD_WORDS * number + word]),
+            bounds: (depth <= SHALLOW).then(|| match points {
                 Ok(points) => program.bounds(&points, depth),
                 Err(refusal) => (refusal, 0, 0),
-            },
+            }),
         };
         let seen: Vec<AtDepth> = (0..).zip(meshes).map(at_depth).collect();
         let what = over_depths_fault(points.as_ref().ok(), &seen)?;
@@ -299,10 +361,10 @@ fn compared(
 }
 
 /// Asks both programs; every word of the first one's answer, if they agree and the
-/// rules hold of the first.  Those over depths are tested at all depths on an
-/// accepted mesh, an element, and bounds that are not refused; that of the stamp at all
-/// depths on an accepted mesh; those of reading and writing on every lot that is read or
-/// written; those of records and bounds of two words on each.
+/// rules hold of the first.  Those over depths are tested on an accepted mesh, an
+/// element, and bounds that are not refused: to depth 3 or the one that is asked, and to
+/// the largest where that leaves nothing undecided; that of the stamp on an accepted mesh
+/// likewise; those of reading and writing on every lot that is read or written.
 pub fn ask(first: Program, second: Program, question: &Question) -> Result<Vec<i64>, Difference> {
     let fault = |what: Option<String>| match what {
         None => Ok(()),
@@ -311,27 +373,33 @@ pub fn ask(first: Program, second: Program, question: &Question) -> Result<Vec<i
     match question {
         Question::Inspect { depth, space, coordinates, indices } => {
             let ask = |program: Program| {
-                inspected_words(&inspected(program.inspects, coordinates, indices, *depth, *space))
+                let (program, depth) = (program.inspects, *depth);
+                inspected_words(&inspected_in(program, coordinates, indices, depth, *space))
             };
             let words = compared(question, ask, first, second)?;
             if words[0] == 0 {
-                fault(mesh_over_depths_fault(first.inspects, coordinates, indices))?;
+                fault(mesh_over_depths_fault(first.inspects, coordinates, indices, *depth))?;
             }
             Ok(words)
         }
-        Question::Element { depth, points } => {
-            let seen = first.inspects.over_depths(points, LARGEST_DEPTH);
-            let asked = &seen[..seen.len().min(*depth as usize + 1)];
-            let others = second.inspects.over_depths(points, *depth);
-            fault(difference(&over_depths_words(asked), &over_depths_words(&others)))?;
+        Question::Element { depth, bounds, points } => {
+            let seen = held_element(first.inspects, points, *depth, *bounds);
+            let asked = |(at_depth, at): (u32, &AtDepth)| AtDepth {
+                bounds: at.bounds.filter(|_| at_depth <= *bounds),
+                ..*at
+            };
+            let asked: Vec<AtDepth> = (0..=*depth).zip(&seen).map(asked).collect();
+            let others = second.inspects.over_depths(points, *depth, *bounds);
+            let words = over_depths_words(&asked);
+            fault(difference(&words, &over_depths_words(&others)))?;
             fault(over_depths_fault(Some(points), &seen))?;
-            Ok(over_depths_words(&seen).words)
+            Ok(words.words)
         }
         Question::Bounds { depth, points } => {
             let ask = |program: Program| bounds_words(program.inspects.bounds(points, *depth));
             let words = compared(question, ask, first, second)?;
             if words[0] == 0 {
-                let seen = first.inspects.over_depths(points, LARGEST_DEPTH);
+                let seen = held_element(first.inspects, points, SHALLOW, *depth);
                 fault(over_depths_fault(Some(points), &seen))?;
             }
             Ok(words)
@@ -383,35 +451,24 @@ pub fn ask(first: Program, second: Program, question: &Question) -> Result<Vec<i
             let ask = |program: Program| reckoned_words(program.reckons.reckoned(*x, *y));
             compared(question, ask, first, second)
         }
-        Question::WideRecords { depth, points } => {
-            let seen = first.searches.records(points, LARGEST_DEPTH.max(*depth));
-            let asked = wide::records_words(&seen[..=*depth as usize]);
-            let others = wide::records_words(&second.searches.records(points, *depth));
-            fault(difference(&asked, &others))?;
-            fault(wide::records_fault(first, points, &seen))?;
-            Ok(wide::records_words(&seen).words)
-        }
-        Question::WideBounds { depth, points } => {
-            let seen = wide::bounds_to(first, points, LARGEST_DEPTH.max(*depth));
-            let asked = wide::bounds_words(seen[*depth as usize]);
-            let others = wide::bounds_words(second.searches.bounds(points, *depth));
-            fault(difference(&asked, &others))?;
-            fault(wide::bounds_fault(first, points, &seen))?;
-            Ok(asked.words)
-        }
-        Question::Half { direction, side, numbers } => {
-            let ask = |program: Program| {
-                wide::half_words(program.searches.half(*direction, *side, numbers))
-            };
-            compared(question, ask, first, second)
-        }
     }
 }
 
-/// The first program's record at the largest depth, from an element's words.
-pub fn last_record(words: &[i64]) -> [i64; 8] {
-    let last = words.len() - PER_DEPTH;
-    std::array::from_fn(|word| words[last + 5 + word])
+/// The number of a low word and a high one.
+pub fn of_two_words(words: &[i64]) -> i128 {
+    i128::from(words[1]) << 64 | i128::from(words[0] as u64)
+}
+
+/// From the words of an element's answer: its record at every depth that was asked, and
+/// low and high at those that have bounds.
+pub fn element_said(words: &[i64]) -> (Vec<Record>, Vec<[i128; 2]>) {
+    let (inspections, bounds) = words[1..].split_at(words[0] as usize * PER_DEPTH);
+    let record = |words: &[i64]| words[5..].try_into().expect("a record");
+    let both = |words: &[i64]| [of_two_words(&words[1..3]), of_two_words(&words[3..5])];
+    (
+        inspections.chunks_exact(PER_DEPTH).map(record).collect(),
+        bounds.chunks_exact(PER_BOUNDS).map(both).collect(),
+    )
 }
 
 /// The report of an accepted mesh, from its words.

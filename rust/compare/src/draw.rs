@@ -1,8 +1,9 @@
-//! Random elements, meshes, addresses, numbers and nets, each from a seed.
+//! Random elements, meshes, addresses and numbers, each from a seed.
 
-use crate::program::IN_ORDER;
+use crate::program::{IN_ORDER, RECORD_WORDS};
 use crate::question::Question;
 use second::specimens::{cube, rings_exchanged, twisted, Points, Shaker};
+use second::Limits;
 
 /// The kinds of random elements.
 #[derive(Clone, Copy, Debug, PartialEq, Eq, PartialOrd, Ord)]
@@ -17,7 +18,7 @@ pub enum Kind {
     Small,
     /// Eight positive corners and a coefficient not above 0.
     Hollow,
-    /// Undecided at depth 3.
+    /// Undecided at depth 2, and most of them at every depth.
     Undecided,
     /// One of the others, mirrored, with its rings exchanged, or both.
     Mirrored,
@@ -36,16 +37,20 @@ pub const KINDS: [Kind; 8] = [
     Kind::Extreme,
 ];
 
-/// A usable coordinate lies in -RANGE..RANGE.
-pub const RANGE: i64 = 4096;
+/// A usable coordinate lies in -RANGE..RANGE, and DEPTH is the largest depth.
+pub const RANGE: i64 = Limits::base().range;
+pub const DEPTH: u32 = Limits::base().depth;
 
-pub fn narrow(points: &Points) -> [i32; 24] {
-    clamped(*points, RANGE).map(|x| x as i32)
+/// 01's range, before request No. 8: within it, to depth 3, every number fits one word.
+pub const OLD_RANGE: i64 = 4096;
+
+pub fn narrow(points: Points) -> [i32; 24] {
+    clamped(points, RANGE).map(|x| x as i32)
 }
 
-/// An element of this kind; every coordinate is usable.
-pub fn element(shaker: &mut Shaker, kind: Kind) -> [i32; 24] {
-    narrow(&drawn(shaker, kind, RANGE))
+/// An element of this kind with every coordinate in -range..range.
+pub fn element(shaker: &mut Shaker, kind: Kind, range: i64) -> [i32; 24] {
+    narrow(clamped(drawn(shaker, kind, range), range))
 }
 
 fn drawn(shaker: &mut Shaker, kind: Kind, range: i64) -> Points {
@@ -185,15 +190,11 @@ fn folded(shaker: &mut Shaker, range: i64) -> Points {
     often_turned(shaker, points)
 }
 
-/// Drawn until the second program finds it undecided at depth 3.
+/// Drawn until the second program finds it undecided at depth 2.
 fn undecided(shaker: &mut Shaker, range: i64) -> Points {
     for _ in 0..2000 {
         let points = folded(shaker, range);
-        let undecided_at = |depth| {
-            let (low, high) = second::bounds_of(&points, depth);
-            low <= 0 && high > 0
-        };
-        if undecided_at(0) && undecided_at(3) {
+        if (0..=2).all(|depth| second::record(&points, depth)[0] == 2) {
             return points;
         }
     }
@@ -235,55 +236,64 @@ fn extreme(shaker: &mut Shaker, range: i64) -> Points {
     often_turned(shaker, clamped(points, range))
 }
 
-// ----------------------------------------------------- the larger limits --
+// --------------------------------------------------- over the whole range --
 
-/// 02, No. 8: "Raise coordinates to -1,048,576..1,048,576".
-pub const WIDE_RANGE: i64 = second::walk::RANGE;
-
-/// Points within the larger range.
-pub fn in_wide_range(points: Points) -> [i32; 24] {
-    clamped(points, WIDE_RANGE).map(|x| x as i32)
-}
-
-/// How many times larger points can be made within the larger range; 1 at least.
-fn room(points: &Points) -> i64 {
+/// How many times larger points can be made in a range; 1 at least.
+fn room(points: &Points, range: i64) -> i64 {
     let most = points.iter().map(|x| x.abs()).max().unwrap_or(0);
-    (WIDE_RANGE / most.max(1)).max(1)
+    (range / most.max(1)).max(1)
 }
 
-/// The points times 1, 2, 4 and so on, while they stay within the larger range.
+/// The points times 1, 2, 4 and so on, while they stay within the range.
 pub fn powers(points: Points) -> Vec<[i32; 24]> {
-    let times = |power: u32| in_wide_range(points.map(|x| x << power));
-    (0..=room(&points).ilog2()).map(times).collect()
+    let times = |power: u32| narrow(points.map(|x| x << power));
+    (0..=room(&points, RANGE).ilog2()).map(times).collect()
 }
 
-/// The last of these.
-pub fn largest(points: Points) -> [i32; 24] {
-    in_wide_range(points.map(|x| x << room(&points).ilog2()))
+/// As large as a power of two makes them in a range.
+pub fn largest(points: Points, range: i64) -> [i32; 24] {
+    narrow(points.map(|x| x << room(&points, range).ilog2()))
 }
 
 /// Made larger by a power of two or by any number, or left as they are.
 fn grown(shaker: &mut Shaker, points: Points) -> [i32; 24] {
-    let room = room(&points);
+    let room = room(&points, RANGE);
     let times = match shaker.between(0, 3) {
         0 => 1,
         1 => shaker.between(1, room),
         _ => 1 << shaker.between(0, room.ilog2().into()),
     };
-    in_wide_range(points.map(|x| x * times))
+    narrow(points.map(|x| x * times))
 }
 
-/// An element of this kind within the larger range.
-pub fn wide_element(shaker: &mut Shaker, kind: Kind) -> [i32; 24] {
-    let range = one_of(shaker, &[RANGE, WIDE_RANGE, WIDE_RANGE]);
+/// An element of this kind and of any size.
+pub fn element_of_any_size(shaker: &mut Shaker, kind: Kind) -> [i32; 24] {
+    let range = one_of(shaker, &[OLD_RANGE, RANGE, RANGE]);
     let points = drawn(shaker, kind, range);
     grown(shaker, points)
 }
 
 /// One of the second program's kinds, made larger.
-pub fn wide_specimen(shaker: &mut Shaker) -> [i32; 24] {
+pub fn specimen(shaker: &mut Shaker) -> [i32; 24] {
     let points = shaker.element();
     grown(shaker, points)
+}
+
+/// Moved along one axis until the largest coordinate there is `end`, or the least one if
+/// that is below 0: J and the verdict stay.
+pub fn moved(mut points: Points, axis: usize, end: i64) -> [i32; 24] {
+    let on_axis = points.iter().skip(axis).step_by(3);
+    let last = if end > 0 { on_axis.max() } else { on_axis.min() };
+    let by = end - last.expect("eight of them");
+    points.iter_mut().skip(axis).step_by(3).for_each(|x| *x += by);
+    narrow(points)
+}
+
+/// An element of the old range, moved so along any axis.
+pub fn moved_to_an_end(shaker: &mut Shaker, end: i64) -> [i32; 24] {
+    let kind = one_of(shaker, &KINDS);
+    let points = element(shaker, kind, OLD_RANGE).map(i64::from);
+    moved(points, shaker.between(0, 2) as usize, end)
 }
 
 /// A ring turned by a half against its square: J = 4 (half - (half + reach) zeta)^2,
@@ -317,7 +327,7 @@ pub fn barely(shaker: &mut Shaker) -> [i32; 24] {
     let mut points = grown(shaker, points).map(i64::from);
     let by = one_of(shaker, &[0, 0, 1, 10, 1000]);
     shake(shaker, &mut points, [by; 3]);
-    in_wide_range(often_turned(shaker, points))
+    narrow(often_turned(shaker, points))
 }
 
 /// Of a cube and an element that has good corners and is invalid, both in the old
@@ -326,15 +336,11 @@ pub fn barely(shaker: &mut Shaker) -> [i32; 24] {
 /// cubes have a low coefficient.
 pub fn turning(shaker: &mut Shaker) -> [i32; 24] {
     let good = cube(-shaker.between(500, 1500), shaker.between(500, 1500));
-    let verdict = |points: &Points, depth: u32| {
-        let records = second::walk::records(points, depth).expect("within the limits");
-        records[depth as usize]
-    };
     let mut bad = twisted(1, 1, 1, 1);
     for _ in 0..200 {
-        let points = clamped(shaker.strained(), RANGE);
-        let said = verdict(&points, 3);
-        if said.kind == 1 && said.level > 0 {
+        let points = clamped(shaker.strained(), OLD_RANGE);
+        let [kind, level, ..] = second::record(&points, 3);
+        if kind == 1 && level > 0 {
             bad = points;
             break;
         }
@@ -345,14 +351,14 @@ pub fn turning(shaker: &mut Shaker) -> [i32; 24] {
     let (mut below, mut above) = (0, 256);
     while above - below > 1 {
         let middle = (below + above) / 2;
-        if verdict(&mixed(middle), 6).kind == 1 {
+        if second::record(&mixed(middle), 6)[0] == 1 {
             above = middle;
         } else {
             below = middle;
         }
     }
     let points = mixed(one_of(shaker, &[below, above]));
-    in_wide_range(often_turned(shaker, points))
+    narrow(often_turned(shaker, points))
 }
 
 // ------------------------------------------------------------------ meshes --
@@ -367,9 +373,14 @@ pub(crate) fn once_in(shaker: &mut Shaker, times: i64) -> bool {
 }
 
 /// Coordinates at the ends of the range, just past them, and far past them.
-const EDGES: [i32; 8] = [-4096, 4096, -4097, 4097, i32::MIN, i32::MAX, i32::MIN + 1, 65_536];
+pub const EDGES: [i32; 8] =
+    [-1_048_576, 1_048_576, -1_048_577, 1_048_577, i32::MIN, i32::MAX, i32::MIN + 1, 1 << 24];
+
+/// The same for the old range, and others within the range.
+const INNER_EDGES: [i32; 5] = [-4096, 4096, -4097, 4097, 65_536];
 
 fn nodes(shaker: &mut Shaker, count: usize) -> Vec<i32> {
+    let range = one_of(shaker, &[OLD_RANGE, OLD_RANGE, RANGE]);
     let mut coordinates = Vec::with_capacity(3 * count + 24);
     // in a large mesh eight points serve over and over: 5,000 nodes in no time
     let serve = if count > 200 { 8 } else { 1 };
@@ -381,16 +392,17 @@ fn nodes(shaker: &mut Shaker, count: usize) -> Vec<i32> {
             3 => Kind::Mirrored,
             _ => Kind::Shaken,
         };
-        let points = element(shaker, kind);
+        let points = element(shaker, kind, range);
         (0..serve).for_each(|_| coordinates.extend(points));
     }
     coordinates.truncate(3 * count);
     if once_in(shaker, 3) {
+        let edges = if once_in(shaker, 3) { &INNER_EDGES[..] } else { &EDGES[..] };
         for _ in 0..shaker.between(1, 6) {
             let length = coordinates.len() as i64;
             if length > 0 {
                 let at = shaker.between(0, length - 1) as usize;
-                coordinates[at] = one_of(shaker, &EDGES);
+                coordinates[at] = one_of(shaker, edges);
             }
         }
     }
@@ -449,7 +461,7 @@ fn length(shaker: &mut Shaker, right: usize) -> usize {
     if !once_in(shaker, 12) {
         return right;
     }
-    let off = one_of(shaker, &[-8, -3, -2, -1, 1, 2, 3, 7, 8]);
+    let off = one_of(shaker, &[-9, -8, -3, -2, -1, 1, 2, 3, 7, 8, 9]);
     right.saturating_add_signed(off)
 }
 
@@ -476,10 +488,14 @@ pub fn mesh(shaker: &mut Shaker) -> Question {
         (0..element_count).flat_map(|_| element_indices(shaker, node_count)).collect();
     let right = indices.len();
     indices.resize(length(shaker, right), 0);
-    let space = length(shaker, indices.len());
+    let space = match shaker.between(0, 39) {
+        0 => indices.len(), // eight words an element
+        _ => length(shaker, indices.len() / 8 * RECORD_WORDS),
+    };
     let depth = match shaker.between(0, 19) {
-        0 => one_of(shaker, &[4, 5, 256, 1 << 16, 1 << 31, u32::MAX]),
+        0 => one_of(shaker, &[9, 10, 256, 1 << 16, 1 << 31, u32::MAX]),
         _ if large => shaker.between(0, 1) as u32,
+        1 | 2 => one_of(shaker, &[4, 4, 4, 5, 5, 6, 7, 8]),
         _ => shaker.between(0, 3) as u32,
     };
     Question::Inspect { depth, space, coordinates, indices }
@@ -488,11 +504,12 @@ pub fn mesh(shaker: &mut Shaker) -> Question {
 /// Eight points with some coordinates at and past the ends of the range, at
 /// any depth.
 pub fn bounds(shaker: &mut Shaker) -> Question {
-    let mut points = element(shaker, Kind::Shaken);
+    let range = one_of(shaker, &[OLD_RANGE, RANGE]);
+    let mut points = element(shaker, Kind::Shaken, range);
     for _ in 0..shaker.between(0, 2) {
         points[shaker.between(0, 23) as usize] = one_of(shaker, &EDGES);
     }
-    let depth = one_of(shaker, &[0, 1, 2, 3, 0, 1, 2, 4, 256, u32::MAX]);
+    let depth = one_of(shaker, &[0, 1, 2, 3, 0, 1, 2, 4, 9, 256, u32::MAX]);
     Question::Bounds { depth, points }
 }
 
@@ -511,8 +528,15 @@ fn any_number(shaker: &mut Shaker) -> u32 {
     }
 }
 
+/// Any level with any grid numbers; or a level to the largest and one more, with numbers
+/// to 2^level.
 pub fn moves(shaker: &mut Shaker) -> [Question; 3] {
-    let address = [0; 4].map(|_: u32| any_number(shaker));
+    let mut address = [0; 4].map(|_: u32| any_number(shaker));
+    if once_in(shaker, 2) {
+        let level = shaker.between(0, 9);
+        let [a, b, c] = [0; 3].map(|_: u32| shaker.between(0, 1 << level) as u32);
+        address = [level as u32, a, b, c];
+    }
     let n = any_number(shaker);
     [Question::Child { address, n }, Question::Corner { address, n }, Question::Parent { address }]
 }
@@ -523,23 +547,4 @@ pub fn moves(shaker: &mut Shaker) -> [Question; 3] {
 pub fn number(shaker: &mut Shaker) -> i128 {
     let bits = u128::from(shaker.draw()) << 64 | u128::from(shaker.draw());
     bits as i128 >> shaker.between(0, 127)
-}
-
-/// 27 numbers that can be cut: of any length in bits, all of about one length, at the
-/// ends, or some of each.
-pub fn net(shaker: &mut Shaker) -> [i128; 27] {
-    let ends = [0, 1, -1, 1 << 63, 1 << 64, -(1 << 64), inner::LARGEST, -inner::LARGEST];
-    let length = shaker.between(2, 127);
-    let how = shaker.between(0, 3);
-    [0; 27].map(|_: i128| {
-        let x = match if how == 3 { shaker.between(0, 2) } else { how } {
-            0 => number(shaker) >> 2,
-            1 => {
-                let bits = u128::from(shaker.draw()) << 64 | u128::from(shaker.draw());
-                bits as i128 >> length
-            }
-            _ => one_of(shaker, &ends),
-        };
-        x.clamp(-inner::LARGEST, inner::LARGEST)
-    })
 }

@@ -4,8 +4,7 @@
 //! compared: numbers, counts, stamps, all report words, bounds, address moves;
 //! of a lot that is read or written also every word of the lent space, and the label
 //! with its place; of an element's name its place; of a slip every byte; of numbers of
-//! two words both words of every sum, difference, product and the like; of the inner
-//! records, bounds and halves over such numbers every word.
+//! two words both words of every sum, difference, product and the like.
 //! What 01 says over depths is tested on the library's answers for every
 //! element, accepted mesh and bounds, that the stamp is the one that the records give on
 //! every accepted mesh, and what 02 says of writing and reading on every lot that is
@@ -18,8 +17,9 @@
 pub mod cases;
 pub mod check;
 pub mod draw;
+pub mod elements;
 pub mod lots;
 pub mod program;
 pub mod question;
 pub mod run;
-pub mod wide;
+pub mod service;

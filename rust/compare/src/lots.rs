@@ -2,8 +2,7 @@
 //! rule of 02, and random ones, each from a seed.
 
 use crate::draw::{once_in, one_of};
-use crate::question::Question;
-use crate::run::Plan;
+use crate::service::Service;
 use second::lot::{Lot, Space, ELEMENT_WORDS, NODE_WORDS};
 use second::specimens::Shaker;
 
@@ -12,51 +11,12 @@ mod names;
 mod slips;
 mod writes;
 
-/// Corpora, what each holds and its questions, made one after the other.
-pub type Corpora = Box<dyn Iterator<Item = (&'static str, Vec<Question>)>>;
-
-/// A kind of random question.
-pub type Draw = fn(&mut Shaker) -> Question;
-
-/// What is asked of one service.
-pub struct Service {
-    pub name: &'static str,
-    pub listed: fn() -> Corpora,
-    pub drawn: &'static [(&'static str, Draw)],
-    /// How many are drawn of each kind.
-    pub count: fn(Plan) -> usize,
-    /// What an answer's words are counted as.
-    pub met: fn(&[i64]) -> Vec<String>,
-    /// What has to be met.
-    pub needed: fn() -> Vec<String>,
-}
-
 pub const READING: Service = files::SERVICE;
 pub const WRITING: Service = writes::SERVICE;
 pub const NAMING: Service = names::SERVICE;
 pub const PRINTING: Service = slips::SERVICE;
 
-/// An answer by its number.
-pub fn numbered(number: i64) -> String {
-    format!("number {number}")
-}
-
-fn by_number(words: &[i64]) -> Vec<String> {
-    vec![numbered(words[0])]
-}
-
-fn all_numbered(numbers: impl IntoIterator<Item = i64>) -> Vec<String> {
-    numbers.into_iter().map(numbered).collect()
-}
-
 // ------------------------------------------------------------------ listed --
-
-/// What makes the questions of a corpus.
-type Make = fn() -> Vec<Question>;
-
-fn made<const N: usize>(corpora: [(&'static str, Make); N]) -> Corpora {
-    Box::new(corpora.into_iter().map(|(name, questions)| (name, questions())))
-}
 
 /// A node whose words, and whose words' bytes, are all different.
 fn node(n: usize) -> [i32; NODE_WORDS] {

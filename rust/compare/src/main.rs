@@ -3,7 +3,7 @@
 //! `compare SEED COUNT`: the whole run, with COUNT random elements.
 //! `compare lots SEED COUNT`: its lots alone.
 //! `compare numbers SEED COUNT`: its numbers of two words alone.
-//! `compare wide SEED COUNT`: its records, bounds and halves in such numbers alone.
+//! `compare elements SEED COUNT`: its elements alone.
 //! `compare again`: the questions on standard input, one a line, as a
 //! difference prints them; the answer of each is printed.
 
@@ -11,7 +11,7 @@
 
 use compare::program::{PRODUCT, SECOND};
 use compare::question::Question;
-use compare::run::{numbers, run, run_lots, run_wide, Pair, Plan};
+use compare::run::{numbers, run, run_elements, run_lots, Pair, Plan};
 use std::io;
 use std::process::ExitCode;
 
@@ -49,8 +49,8 @@ fn numbers_alone(seed: &str, count: &str) -> Result<(), String> {
     numbers(PAIR, plan(seed, count)?).map(say).map_err(|found| found.to_string())
 }
 
-fn wide(seed: &str, count: &str) -> Result<(), String> {
-    run_wide(PAIR, plan(seed, count)?, &say).map_err(|found| found.to_string())
+fn elements(seed: &str, count: &str) -> Result<(), String> {
+    run_elements(PAIR, plan(seed, count)?, &say).map_err(|found| found.to_string())
 }
 
 fn main() -> ExitCode {
@@ -59,9 +59,9 @@ fn main() -> ExitCode {
         ["again"] => again(),
         ["lots", seed, count] => lots(seed, count),
         ["numbers", seed, count] => numbers_alone(seed, count),
-        ["wide", seed, count] => wide(seed, count),
+        ["elements", seed, count] => elements(seed, count),
         [seed, count] => whole(seed, count),
-        _ => Err("use: compare [lots|numbers|wide] SEED COUNT, or: compare again".to_string()),
+        _ => Err("use: compare [elements|lots|numbers] SEED COUNT, or: compare again".to_string()),
     };
     match done {
         Ok(()) => {

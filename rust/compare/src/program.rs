@@ -4,6 +4,7 @@ use brundhal::{Number, SLIP_BYTES};
 use second::lot::writing::write_lot;
 use second::lot::{read_lot, Groups, Lot, ELEMENT_WORDS, NODE_WORDS};
 use second::Limits;
+pub use second::{Record, RECORD_WORDS};
 use std::cmp::Ordering;
 
 /// Every word of an inspection's answer: number, valid, invalid, undecided,
@@ -16,13 +17,16 @@ pub type Address = [u32; 4];
 /// 1 or 0 for a move that was made or not, then the address handed back.
 pub type Move = [u32; 5];
 
+/// What the bounds service says: number, low and high.
+pub type Bounds = (u32, i128, i128);
+
 /// What one depth says of eight points: an inspection's answer for the mesh of
-/// this one element, its record, and the bounds' number, low and high.
+/// this one element, its record, and the bounds, if they were asked for.
 #[derive(Clone, Copy, Debug, PartialEq, Eq)]
 pub struct AtDepth {
     pub answer: Answer,
-    pub record: [i64; 8],
-    pub bounds: (u32, i64, i64),
+    pub record: Record,
+    pub bounds: Option<Bounds>,
 }
 
 /// Lent space for a lot that is read.
@@ -62,7 +66,6 @@ pub struct Program<'a> {
     pub names: &'a dyn Names,
     pub prints: &'a dyn Prints,
     pub reckons: &'a dyn Reckons,
-    pub searches: &'a dyn Searches,
 }
 
 /// The services of 01.
@@ -74,18 +77,20 @@ pub trait Inspects: Sync {
         depth: u32,
         report: &mut [i64],
     ) -> Answer;
-    fn bounds(&self, points: &[i32; 24], depth: u32) -> (u32, i64, i64);
+    fn bounds(&self, points: &[i32; 24], depth: u32) -> Bounds;
     fn stamp(&self, answer: Answer) -> Option<Stamp>;
     fn child(&self, address: Address, n: u32) -> Move;
     fn corner(&self, address: Address, n: u32) -> Move;
     fn parent(&self, address: Address) -> Move;
 
-    /// Eight points in range, at every depth from 0 to `depth`.
-    fn over_depths(&self, points: &[i32; 24], depth: u32) -> Vec<AtDepth> {
-        let at_depth = |depth| {
-            let mut record = [PATTERN; 8];
+    /// Eight points in range, at every depth from 0 to `depth`; their bounds at every
+    /// depth from 0 to `bounds`.
+    fn over_depths(&self, points: &[i32; 24], depth: u32, bounds: u32) -> Vec<AtDepth> {
+        let at_depth = |depth: u32| {
+            let mut record = [PATTERN; RECORD_WORDS];
             let answer = self.inspect(points, &IN_ORDER, depth, &mut record);
-            AtDepth { answer, record, bounds: self.bounds(points, depth) }
+            let bounds = (depth <= bounds).then(|| self.bounds(points, depth));
+            AtDepth { answer, record, bounds }
         };
         (0..=depth).map(at_depth).collect()
     }
@@ -166,23 +171,6 @@ pub trait Reckons: Sync {
     }
 }
 
-/// A record of nine words.  02: "Word 6 becomes two words, low 64 bits and then high, as
-/// two's complement; the opened count moves to word 8".
-pub type WideRecord = [i64; inner::RECORD_WORDS];
-
-/// Low and high, each its low word and then its high one.
-pub type WideBounds = [u64; 4];
-
-/// The inner services over numbers of two words.  Coordinates and depths are within the
-/// limits of 02, No. 8, and numbers to be cut within `inner::LARGEST`.
-pub trait Searches: Sync {
-    /// The record of eight points at every depth from 0 to `depth`.
-    fn records(&self, points: &[i32; 24], depth: u32) -> Vec<WideRecord>;
-    fn bounds(&self, points: &[i32; 24], depth: u32) -> WideBounds;
-    /// The half on side 0, or else 1, four times larger.
-    fn half(&self, direction: u32, side: u32, numbers: &[i128; 27]) -> [i128; 27];
-}
-
 /// The indices of an element that has eight nodes of its own.
 pub const IN_ORDER: [u32; 8] = [0, 1, 2, 3, 4, 5, 6, 7];
 
@@ -208,7 +196,6 @@ pub const PRODUCT: Program = Program {
     names: &Product,
     prints: &Product,
     reckons: &Product,
-    searches: &Product,
 };
 
 fn moved(answer: brundhal::Moved) -> Move {
@@ -240,9 +227,9 @@ impl Inspects for Product {
         [answer.number, answer.valid, answer.invalid, answer.undecided, answer.refused]
     }
 
-    fn bounds(&self, points: &[i32; 24], depth: u32) -> (u32, i64, i64) {
+    fn bounds(&self, points: &[i32; 24], depth: u32) -> Bounds {
         let answer = brundhal::bounds(points, depth);
-        (answer.number, answer.low, answer.high)
+        (answer.number, answer.low.into(), answer.high.into())
     }
 
     fn stamp(&self, answer: Answer) -> Option<Stamp> {
@@ -299,7 +286,8 @@ impl Prints for Product {
 
 /// A number by its words.
 fn number(x: i128) -> Number {
-    Number { low: x as u64, high: (x >> 64) as u64 }
+    let [low, high] = second::two_words(x).map(|word| word as u64);
+    Number { low, high }
 }
 
 impl Reckons for Product {
@@ -348,23 +336,9 @@ impl Reckons for Product {
     }
 }
 
-impl Searches for Product {
-    fn records(&self, points: &[i32; 24], depth: u32) -> Vec<WideRecord> {
-        (0..=depth).map(|depth| inner::record(points, depth)).collect()
-    }
-
-    fn bounds(&self, points: &[i32; 24], depth: u32) -> WideBounds {
-        inner::bounds(points, depth)
-    }
-
-    fn half(&self, direction: u32, side: u32, numbers: &[i128; 27]) -> [i128; 27] {
-        inner::half(direction, side, numbers)
-    }
-}
-
 // ------------------------------------------------------ the second program --
 
-/// The second program, at 01's limits.
+/// The second program.
 pub struct Second;
 
 pub const SECOND: Program = Program {
@@ -374,7 +348,6 @@ pub const SECOND: Program = Program {
     names: &Second,
     prints: &Second,
     reckons: &Second,
-    searches: &Second,
 };
 
 fn said((to, made): (second::Address, bool)) -> Move {
@@ -395,7 +368,7 @@ fn cube([level, a, b, c]: Address) -> second::Address {
 }
 
 /// The answer for a mesh of one element with this record.
-fn answer_of_one(record: &[i64; 8]) -> Answer {
+fn answer_of_one(record: &Record) -> Answer {
     let mut answer = [0; 5];
     match record[0] {
         0 => answer[1] = 1,
@@ -404,11 +377,6 @@ fn answer_of_one(record: &[i64; 8]) -> Answer {
         _ => answer[4] = 1,
     }
     answer
-}
-
-/// A bound of points in range: 01 says that it fits 64 bits.
-fn held(bound: i128) -> i64 {
-    i64::try_from(bound).expect("a bound of points in range fits 64 bits")
 }
 
 /// An answer laid at the front of lent space.
@@ -433,7 +401,7 @@ impl Inspects for Second {
         [answer.number, answer.valid, answer.invalid, answer.undecided, answer.refused]
     }
 
-    fn bounds(&self, points: &[i32; 24], depth: u32) -> (u32, i64, i64) {
+    fn bounds(&self, points: &[i32; 24], depth: u32) -> Bounds {
         let answer = second::bounds(&Limits::base(), points, depth);
         (answer.number, answer.low, answer.high)
     }
@@ -456,16 +424,23 @@ impl Inspects for Second {
         said(cube(address).parent(&Limits::base()))
     }
 
-    /// Each level looked at once, for all depths.
-    fn over_depths(&self, points: &[i32; 24], depth: u32) -> Vec<AtDepth> {
-        let levels = second::over_depths(&points.map(i64::from), depth)
-            .expect("points in range are within reach");
-        let at_depth = |(said, (low, high)): second::RecordAndBounds| {
-            let record = said.eight_words();
-            let bounds = (0, held(low), held(high));
-            AtDepth { answer: answer_of_one(&record), record, bounds }
+    /// Each level looked at once, for all depths: to `bounds` for both, which to depth
+    /// `second::EVERY_CUBE` is by every cube, and then for the records alone.
+    fn over_depths(&self, points: &[i32; 24], depth: u32, bounds: u32) -> Vec<AtDepth> {
+        let points = points.map(i64::from);
+        let said = |record: Record, bounds: Option<second::Bounds>| AtDepth {
+            answer: answer_of_one(&record),
+            record,
+            bounds: bounds.map(|(low, high)| (0, low, high)),
         };
-        levels.into_iter().map(at_depth).collect()
+        let both = second::over_depths(&points, bounds.min(depth));
+        let mut seen: Vec<AtDepth> =
+            both.into_iter().map(|(record, bounds)| said(record, Some(bounds))).collect();
+        if depth > bounds {
+            let deeper = second::records(&points, depth).into_iter().skip(seen.len());
+            seen.extend(deeper.map(|record| said(record, None)));
+        }
+        seen
     }
 }
 
@@ -573,39 +548,5 @@ impl Reckons for Second {
 
     fn at_most(&self, x: i128, y: i128) -> bool {
         x <= y
-    }
-}
-
-/// The largest depth at which every cube of every level is looked at; at greater ones
-/// those are from which the answer can come.
-const ALL_CUBES: u32 = 4;
-
-const IN_LIMITS: &str = "points and depth are within the larger limits";
-
-impl Searches for Second {
-    fn records(&self, points: &[i32; 24], depth: u32) -> Vec<WideRecord> {
-        let points = points.map(i64::from);
-        let said: Vec<second::Said> = if depth <= ALL_CUBES {
-            let all = second::over_depths(&points, depth).expect(IN_LIMITS);
-            all.into_iter().map(|(said, _)| said).collect()
-        } else {
-            second::walk::records(&points, depth).expect(IN_LIMITS)
-        };
-        said.iter().map(second::Said::nine_words).collect()
-    }
-
-    fn bounds(&self, points: &[i32; 24], depth: u32) -> WideBounds {
-        let points = points.map(i64::from);
-        let (low, high) = if depth <= ALL_CUBES {
-            second::bounds_of(&points, depth)
-        } else {
-            second::walk::bounds_of(&points, depth).expect(IN_LIMITS)
-        };
-        let ([a, b], [c, d]) = (second::two_words(low), second::two_words(high));
-        [a, b, c, d]
-    }
-
-    fn half(&self, direction: u32, side: u32, numbers: &[i128; 27]) -> [i128; 27] {
-        second::half(direction as usize, side != 0, numbers)
     }
 }

@@ -15,10 +15,11 @@ pub enum Question {
         indices: Vec<u32>,
     },
     /// Eight points, all in range, at every depth from 0 to `depth`: the
-    /// inspection of the mesh of this one element, and the bounds.  The first
-    /// program answers at the greater depths as well.
+    /// inspection of the mesh of this one element, and to depth `bounds` the bounds.
+    /// The first program answers at greater depths as well.
     Element {
         depth: u32,
+        bounds: u32,
         points: [i32; 24],
     },
     /// The bounds of any eight points at one depth.
@@ -69,24 +70,6 @@ pub enum Question {
         x: i128,
         y: i128,
     },
-    /// Eight points within the larger limits, at every depth from 0 to `depth`: their
-    /// records, with values of two words.  The first program answers to depth 3 at
-    /// least.
-    WideRecords {
-        depth: u32,
-        points: [i32; 24],
-    },
-    /// Both bounds of such points at one depth.
-    WideBounds {
-        depth: u32,
-        points: [i32; 24],
-    },
-    /// The half of 27 numbers on a side in a direction.
-    Half {
-        direction: u32,
-        side: u32,
-        numbers: Box<[i128; 27]>,
-    },
 }
 
 fn put<T: fmt::Display>(f: &mut fmt::Formatter<'_>, numbers: &[T]) -> fmt::Result {
@@ -115,8 +98,8 @@ impl fmt::Display for Question {
                 put_run(f, coordinates)?;
                 put_run(f, indices)
             }
-            Question::Element { depth, points } => {
-                write!(f, "element {depth}")?;
+            Question::Element { depth, bounds, points } => {
+                write!(f, "element {depth} {bounds}")?;
                 put(f, points)
             }
             Question::Bounds { depth, points } => {
@@ -161,18 +144,6 @@ impl fmt::Display for Question {
                 put_run(f, file)
             }
             Question::Numbers { x, y } => write!(f, "numbers {x} {y}"),
-            Question::WideRecords { depth, points } => {
-                write!(f, "wide_records {depth}")?;
-                put(f, points)
-            }
-            Question::WideBounds { depth, points } => {
-                write!(f, "wide_bounds {depth}")?;
-                put(f, points)
-            }
-            Question::Half { direction, side, numbers } => {
-                write!(f, "half {direction} {side}")?;
-                put(f, numbers.as_slice())
-            }
         }
     }
 }
@@ -219,7 +190,9 @@ impl Numbers<'_> {
                 coordinates: self.run()?,
                 indices: self.run()?,
             },
-            "element" => Question::Element { depth: self.one()?, points: self.array()? },
+            "element" => {
+                Question::Element { depth: self.one()?, bounds: self.one()?, points: self.array()? }
+            }
             "bounds" => Question::Bounds { depth: self.one()?, points: self.array()? },
             "child" => Question::Child { n: self.one()?, address: self.array()? },
             "corner" => Question::Corner { n: self.one()?, address: self.array()? },
@@ -235,13 +208,6 @@ impl Numbers<'_> {
             },
             "slip" => Question::Slip { file: self.run()? },
             "numbers" => Question::Numbers { x: self.one()?, y: self.one()? },
-            "wide_records" => Question::WideRecords { depth: self.one()?, points: self.array()? },
-            "wide_bounds" => Question::WideBounds { depth: self.one()?, points: self.array()? },
-            "half" => Question::Half {
-                direction: self.one()?,
-                side: self.one()?,
-                numbers: Box::new(self.array()?),
-            },
             _ => return None,
         };
         self.0.next().is_none().then_some(question)

@@ -1,12 +1,15 @@
 //! The whole side-by-side run.
 
 use crate::cases::{cases, figures, not_as_printed, rounded};
-use crate::check::{ask, last_record, report_words, Difference, POINTS_A_LEVEL, STAMPS};
-use crate::draw::{self, Kind, KINDS};
-use crate::lots::{numbered, Service, NAMING, PRINTING, READING, WRITING};
-use crate::program::{Program, IN_ORDER, RECKONED};
+use crate::check::{
+    ask, element_said, report_words, Difference, FINER_LEVELS, POINTS_A_LEVEL, STAMPS,
+};
+use crate::draw::{self, DEPTH};
+use crate::elements::{verdict, DEEP, DEEP_BOUNDS, ELEMENTS};
+use crate::lots::{NAMING, PRINTING, READING, WRITING};
+use crate::program::{Program, IN_ORDER, RECKONED, RECORD_WORDS};
 use crate::question::Question;
-use crate::wide::{BOUNDS, HALVES, RECORDS};
+use crate::service::{numbered, Service};
 use second::specimens::Shaker;
 use std::collections::BTreeMap;
 use std::fmt::Write;
@@ -29,10 +32,8 @@ pub struct Plan {
     pub slips: usize,
     /// Random pairs of numbers of two words.
     pub numbers: usize,
-    /// Of each kind of random elements within the larger limits, for records and for
-    /// bounds; and random nets to halve.
-    pub wide: usize,
-    pub halves: usize,
+    /// Of each kind of random elements at the greater depths.
+    pub deep: usize,
 }
 
 impl Plan {
@@ -48,8 +49,7 @@ impl Plan {
             names: elements,
             slips: elements / 50,
             numbers: elements * 100,
-            wide: elements / 400,
-            halves: elements,
+            deep: elements / 400,
         }
     }
 }
@@ -136,47 +136,46 @@ fn shaker_for(seed: u64, part: u64, turn: usize) -> Shaker {
 // ------------------------------------------------------------------- parts --
 
 /// What `ask` tests beside the second program's answer.
-const OVER_DEPTHS: &str = "held over depths 0 to 3";
+const OVER_DEPTHS: &str = "held over depths";
 
-/// The cases of 01 at every depth, against what 01 prints too.
+/// The cases of 01 at every depth, against what 01 prints too; case F, which is
+/// undecided at every depth, to depth 6.
 fn worked_cases(pair: Pair) -> Result<String, Difference> {
     for case in cases() {
-        for depth in 0..=3 {
-            pair.ask_again(&case.question(depth))?;
+        for depth in 0..=DEPTH {
+            let words = pair.ask_again(&case.question(depth))?;
+            if depth == 6 && report_words(&words)[0] == 2 {
+                break;
+            }
+        }
+        for depth in 0..=4 {
             pair.ask_again(&Question::Bounds { depth, points: case.points })?;
         }
         if case.is_whole() {
-            pair.ask(&Question::Element { depth: 3, points: case.points })?;
+            pair.ask(&Question::Element { depth: 4, bounds: 3, points: case.points })?;
         }
     }
-    Ok("A to I and the cube from -4,096 to 4,096, at depths 0 to 3".to_string())
-}
-
-/// A record by its first two words.
-pub fn verdict(record: &[i64]) -> String {
-    match record[0] {
-        0 => format!("valid at level {}", record[1]),
-        1 => format!("invalid at level {}", record[1]),
-        2 => format!("undecided at depth {}", record[1]),
-        _ => format!("refused with {}", record[0]),
-    }
+    Ok("A to I and the cube from -1,048,576 to 1,048,576".to_string())
 }
 
 /// The paper's figures, rounded at several scales.  01: "run and noted, no
-/// verdict is demanded."
+/// verdict is demanded."  At depth 3, and where that does not decide at the largest.
 fn paper_figures(pair: Pair) -> Result<String, Difference> {
-    let mut lines = String::from("verdicts at depth 3 (units a figure unit, record)");
+    let mut lines = String::from("verdicts (units a figure unit, record)");
     for figure in figures() {
         for scale in figure.scales {
             let points = rounded(&figure, scale);
-            let words = pair.ask(&Question::Element { depth: 3, points })?;
-            let record = last_record(&words);
-            let _ = write!(
-                lines,
-                "\n    {} times {scale}: {}, {record:?}",
-                figure.name,
-                verdict(&record)
-            );
+            let words = pair.ask(&Question::Element { depth: DEPTH, bounds: 3, points })?;
+            let (records, _) = element_said(&words);
+            let deeper = (records[3][0] == 2).then_some(&records[DEPTH as usize]);
+            for record in [Some(&records[3]), deeper].into_iter().flatten() {
+                let _ = write!(
+                    lines,
+                    "\n    {} times {scale}: {}, {record:?}",
+                    figure.name,
+                    verdict(record)
+                );
+            }
         }
     }
     Ok(lines)
@@ -187,12 +186,14 @@ fn paper_figures(pair: Pair) -> Result<String, Difference> {
 fn refusals(pair: Pair) -> Result<String, Difference> {
     let coordinate_lengths = [0, 1, 2, 3, 23, 24, 25, 15_000, 15_001, 15_003];
     let index_lengths = [0, 1, 7, 8, 9, 16, 8000, 8001, 8008];
-    let depths = [0, 1, 2, 3, 4, 5, 256, u32::MAX];
+    let depths = [0, 1, 4, 8, 9, 10, 256, u32::MAX];
+    // right of no element, one, two and 1,000; of eight words each; and about these
+    let spaces = [0, 8, 9, 10, 16, 18, 8000, 8999, 9000, 9001, 9009];
     let mut questions = Vec::new();
     for coordinates in coordinate_lengths {
         for indices in index_lengths {
             for depth in depths {
-                for space in [0, 7, 8, 9, 16, 7999, 8000, 8001, 8008] {
+                for space in spaces {
                     questions.push((coordinates, indices, depth, space));
                 }
             }
@@ -231,6 +232,30 @@ fn sharings() -> Vec<[u32; 8]> {
     ways.into_iter().map(|(indices, _)| indices).collect()
 }
 
+/// Case A with each coordinate in turn at the ends of the range, past them, and at the
+/// ends of 32 bits: refused with 6 or not.
+fn coordinates_at_the_ends(pair: Pair) -> Result<String, Difference> {
+    let cube = cases().swap_remove(0).points;
+    let tally = on_two_threads(cube.len(), |at, tally| {
+        for x in draw::EDGES {
+            let mut points = cube;
+            points[at] = x;
+            for depth in [0, 3, 4, 8] {
+                let (coordinates, indices) = (points.to_vec(), IN_ORDER.to_vec());
+                let space = RECORD_WORDS;
+                let question = Question::Inspect { depth, space, coordinates, indices };
+                count(tally, verdict(report_words(&pair.ask(&question)?)));
+            }
+            for depth in [0, 3, 9] {
+                let bounds = pair.ask(&Question::Bounds { depth, points })?;
+                count(tally, format!("number {} of the bounds", bounds[0]));
+            }
+        }
+        Ok(())
+    })?;
+    Ok(in_words(&tally))
+}
+
 /// All of these over case A's nodes, with fewer nodes, and with one coordinate out of
 /// range, so that the order of 5, 7 and 6 shows.
 fn shared_nodes(pair: Pair) -> Result<String, Difference> {
@@ -238,7 +263,7 @@ fn shared_nodes(pair: Pair) -> Result<String, Difference> {
     let fewer = (0..=8).map(|count| cube[..3 * count].to_vec());
     let far = (0..24).map(|at| {
         let mut coordinates = cube.to_vec();
-        coordinates[at] = 4097;
+        coordinates[at] = draw::RANGE as i32 + 1;
         coordinates
     });
     let nodes: Vec<Vec<i32>> = fewer.chain(far).collect();
@@ -247,12 +272,12 @@ fn shared_nodes(pair: Pair) -> Result<String, Difference> {
         for elements in ways.chunks(1000) {
             let indices = elements.concat();
             let words = pair.ask(&Question::Inspect {
-                depth: turn as u32 % 4,
-                space: indices.len(),
+                depth: turn as u32 % (DEPTH + 1),
+                space: elements.len() * RECORD_WORDS,
                 coordinates: nodes[turn].clone(),
                 indices,
             })?;
-            for record in report_words(&words).chunks_exact(8) {
+            for record in report_words(&words).chunks_exact(RECORD_WORDS) {
                 count(tally, verdict(record));
             }
         }
@@ -285,11 +310,18 @@ fn meshes(pair: Pair, plan: Plan) -> Result<String, Difference> {
     Ok(format!("{asked} meshes and as many bounds, those of number 0 {OVER_DEPTHS}, {said}"))
 }
 
-/// Moves of all small addresses, and of any.
+/// Moves of addresses of every level to past the largest, with small grid numbers and
+/// those about 2^level and 255; and of any.
 fn moves(pair: Pair, plan: Plan) -> Result<String, Difference> {
-    let tally = on_two_threads(6, |level, tally| {
-        for at in 0..11u32.pow(3) {
-            let address = [level as u32, at / 121, at / 11 % 11, at % 11];
+    let tally = on_two_threads(DEPTH as usize + 3, |level, tally| {
+        let power = 1u32 << level;
+        let mut numbers = vec![0, 1, 2, 3, power - 1, power, power + 1, 254, 255, 256, 257];
+        numbers.sort_unstable();
+        numbers.dedup();
+        let count_of = numbers.len();
+        for at in 0..count_of.pow(3) {
+            let [a, b, c] = [at / count_of.pow(2), at / count_of % count_of, at % count_of];
+            let address = [level as u32, numbers[a], numbers[b], numbers[c]];
             for n in 0..=10 {
                 count_move(tally, &pair.ask(&Question::Child { address, n })?);
                 count_move(tally, &pair.ask(&Question::Corner { address, n })?);
@@ -304,7 +336,7 @@ fn moves(pair: Pair, plan: Plan) -> Result<String, Difference> {
             pair.ask(&question)?;
         }
     }
-    Ok(format!("{} of small addresses, {} of any", in_words(&tally), 3 * plan.moves))
+    Ok(format!("{} of every level, {} of any", in_words(&tally), 3 * plan.moves))
 }
 
 fn count_move(tally: &mut Tally, words: &[i64]) {
@@ -381,33 +413,6 @@ pub fn numbers(pair: Pair, plan: Plan) -> Result<String, Difference> {
     ))
 }
 
-/// Random elements of every kind.  The depth goes round with the element: two
-/// in eight are asked of both programs to depth 3, with every depth below; the
-/// first program is held over all depths on each.
-fn elements(pair: Pair, plan: Plan) -> Result<String, Difference> {
-    const LOT: usize = 64;
-    const DEPTHS: [u32; 8] = [0, 3, 1, 2, 1, 3, 0, 2];
-    let jobs = plan.elements.div_ceil(LOT);
-    let tally = on_two_threads(jobs, |turn, tally| {
-        let mut shaker = shaker_for(plan.seed, 4, turn);
-        for at in turn * LOT..((turn + 1) * LOT).min(plan.elements) {
-            let kind: Kind = KINDS[at % KINDS.len()];
-            let depth = DEPTHS[at / KINDS.len() % DEPTHS.len()];
-            let points = draw::element(&mut shaker, kind);
-            let words = pair.ask(&Question::Element { depth, points })?;
-            count(tally, format!("both to depth {depth}"));
-            let record = last_record(&words);
-            count(tally, format!("{kind:?}: {}", verdict(&record)));
-            if record[0] == 0 {
-                let points = 3 * POINTS_A_LEVEL;
-                count(tally, format!("valid, with J at {points} points of levels 4 to 6"));
-            }
-        }
-        Ok(())
-    })?;
-    Ok(format!("{} elements, all {OVER_DEPTHS}, {}", plan.elements, in_words(&tally)))
-}
-
 fn in_words(tally: &Tally) -> String {
     let parts: Vec<String> = tally.iter().map(|(what, times)| format!("{what} {times}")).collect();
     parts.join("; ")
@@ -421,7 +426,7 @@ fn count_met(
     tally: &mut Tally,
 ) -> Result<(), Difference> {
     let words = pair.ask(question)?;
-    (service.met)(&words).into_iter().for_each(|what| count(tally, what));
+    (service.met)(question, &words).into_iter().for_each(|what| count(tally, what));
     Ok(())
 }
 
@@ -476,9 +481,13 @@ pub fn run_lots(pair: Pair, plan: Plan, say: &dyn Fn(String)) -> Result<(), Diff
     services.iter().try_for_each(|(part, service)| run_service(pair, plan, service, *part, say))
 }
 
-/// Records, bounds and halves in numbers of two words.
-pub fn run_wide(pair: Pair, plan: Plan, say: &dyn Fn(String)) -> Result<(), Difference> {
-    let services = [(30, RECORDS), (50, BOUNDS), (60, HALVES)];
+/// Elements: records and bounds over the whole range and at every depth.
+pub fn run_elements(pair: Pair, plan: Plan, say: &dyn Fn(String)) -> Result<(), Difference> {
+    say(format!(
+        "elements: all {OVER_DEPTHS} 0 to 3 and those that are asked, the decided ones 0 to {DEPTH}; \
+         for a valid one J is above 0 at {POINTS_A_LEVEL} points of each of the levels {FINER_LEVELS:?}"
+    ));
+    let services = [(30, DEEP), (50, DEEP_BOUNDS), (70, ELEMENTS)];
     services.iter().try_for_each(|(part, service)| run_service(pair, plan, service, *part, say))
 }
 
@@ -494,16 +503,16 @@ pub fn run(pair: Pair, plan: Plan, say: &dyn Fn(String)) -> Result<(), Differenc
         ("address moves", &|| moves(pair, plan)),
         ("stamps", &|| stamps(pair, plan)),
         ("numbers of two words", &|| numbers(pair, plan)),
-        ("refusals", &|| refusals(pair)),
+        ("coordinates at the ends", &|| coordinates_at_the_ends(pair)),
         ("shared nodes", &|| shared_nodes(pair)),
+        ("refusals", &|| refusals(pair)),
         ("random meshes", &|| meshes(pair, plan)),
-        ("random elements", &|| elements(pair, plan)),
     ];
     for (name, part) in parts {
         let start = Instant::now();
         let said = part()?;
         say(format!("{name}: {said} ({:.1} s)", start.elapsed().as_secs_f64()));
     }
-    run_wide(pair, plan, say)?;
+    run_elements(pair, plan, say)?;
     run_lots(pair, plan, say)
 }

@@ -1,18 +1,13 @@
 //! A second, plain program for the inspection of trilinear hexahedra.
 //!
 //! It answers what the scope document (01) asks, and 02 where a request of it changed
-//! an answer (the stamp, refusal 7), by sampling alone: J is taken
-//! from the partial derivatives of the mapping at grid points, the 27 Bezier
-//! coefficients of a cube are fitted to 27 samples, and every cube of every
-//! level up to the depth is looked at.  Nothing is searched or left out, so
-//! it is slow and short.  All arithmetic is on `i128`.  The lot files of document
-//! 02 are read and written in `lot`, and the slip is printed in `slip`.  `walk` has the
-//! records and bounds within the larger limits of 02, No. 8, where all cubes of a level
-//! are too many.
-//!
-//! Reach.  The numbers below are exact for coordinates up to `REACH_RANGE` and
-//! depths up to `REACH_DEPTH`, far past 01's own limits.  Past the reach every
-//! function still returns: see `OUT_OF_REACH`, `bounds_of` and `effective`.
+//! an answer (the stamp, refusal 7, the larger limits), by sampling alone: J is taken
+//! from the partial derivatives of the mapping at grid points, and the 27 Bezier
+//! coefficients of a cube are fitted to 27 samples.  Nothing is cut, nothing is taken
+//! from a table, and all arithmetic is on `i128`.  To depth `EVERY_CUBE` every cube of
+//! every level is looked at (`every_cube`); beyond, those that are due (`walk`).  The
+//! lot files of document 02 are read and written in `lot`, and the slip is printed in
+//! `slip`.
 
 #![deny(warnings)]
 #![forbid(unsafe_code)]
@@ -21,23 +16,14 @@
 
 use std::sync::LazyLock;
 
+mod every_cube;
 pub mod lot;
 pub mod slip;
 pub mod specimens;
-pub mod walk;
+mod walk;
 
 #[cfg(test)]
 mod tests;
-
-/// Largest coordinate magnitude for which every number of `REACH_DEPTH` fits:
-/// 384 * (2^25)^3 * 64^(6 + 1) is below 2^127.
-pub const REACH_RANGE: i64 = 1 << 25;
-
-/// Largest depth looked at (8^6 cubes at the finest level).
-pub const REACH_DEPTH: u32 = 6;
-
-/// What `record` gives past the reach; its word 0 is no verdict of 01.
-pub const OUT_OF_REACH: [i64; 8] = [-1, 0, 0, 0, 0, 0, 0, 0];
 
 // ---------------------------------------------------------------- limits --
 
@@ -55,17 +41,18 @@ pub struct Limits {
 }
 
 impl Limits {
-    /// 01: "at most 5,000 nodes", "at most 1,000 elements", "The depth D [...]
-    /// is 0 to 3", "A usable coordinate lies in -4,096..4,096".
-    pub fn base() -> Limits {
-        Limits { range: 4096, depth: 3, nodes: 5000, elements: 1000 }
-    }
-
-    /// The same limits, with range and depth held to this program's reach.
-    fn effective(&self) -> Limits {
-        Limits { range: self.range.min(REACH_RANGE), depth: self.depth.min(REACH_DEPTH), ..*self }
+    /// 01: "at most 5,000 nodes", "at most 1,000 elements"; 02, No. 8: "Raise
+    /// coordinates to -1,048,576..1,048,576 and depth to 8".
+    pub const fn base() -> Limits {
+        Limits { range: 1_048_576, depth: 8, nodes: 5000, elements: 1000 }
     }
 }
+
+/// The largest coordinate and depth for which every number below fits 128 bits: the
+/// largest is 64 times a held coefficient, and 384 * (2^21)^3 * 64^(8 + 1) is below
+/// 2^126.
+const REACH_RANGE: i64 = 1 << 21;
+const REACH_DEPTH: u32 = 8;
 
 // ------------------------------------------------------- the reference cube --
 
@@ -219,63 +206,25 @@ fn eight_times_the_fit(mut net: Net) -> Net {
     net
 }
 
-/// The quotient, if nothing is left over.
-fn divided_exactly(number: i128, by: i128) -> Option<i128> {
-    if number.checked_rem(by)? == 0 {
-        number.checked_div(by)
-    } else {
-        None
-    }
-}
-
 /// The 27 coefficients of a cube of level m, held times 8 * 64^m, in 01's
 /// numbering, from the 27 samples of 64^(m+1) J on its twice finer grid.
-/// None if one of them were no whole number.
-fn coefficients_from(samples: Net) -> Option<[i128; 27]> {
-    let net = eight_times_the_fit(samples); // times 8 * 64^(m+1)
-    let mut held = [0; 27];
-    for (number, &[i, j, k]) in PLACES.iter().enumerate() {
-        held[number] = divided_exactly(net[i][j][k], 64)?;
-    }
-    Some(held)
-}
-
-/// The 27 coefficients of the level-m cube at (a, b, c), in 01's numbering.
 ///
 /// 01: "All are kept times 8, and are then whole"; "A level-m coefficient is
-/// thus held times 8 * 64^m".  Exact whenever 64 times each fits 128 bits.
-/// All 27 are `i128::MIN` if a division should leave a remainder.
-pub fn coefficients(points: &[i64; 24], m: u32, a: u64, b: u64, c: u64) -> [i128; 27] {
-    let low = [a, b, c].map(|number| 2 * i128::from(number));
-    let block = Grid::block(points, two_to(m.saturating_add(1)), low, 3);
-    coefficients_from(block.on_the_cube([0; 3])).unwrap_or([i128::MIN; 27])
+/// thus held times 8 * 64^m".
+fn coefficients_from(samples: Net) -> [i128; 27] {
+    let net = eight_times_the_fit(samples); // times 8 * 64^(m+1)
+    PLACES.map(|[i, j, k]| {
+        assert_eq!(net[i][j][k] % 64, 0, "a held coefficient is whole");
+        net[i][j][k] / 64
+    })
 }
 
-/// The half of 27 numbers in one direction, the upper one or the lower one.
-///
-/// 01: "A row (p, q, r) cut in the middle gives (p, (p+q)/2, (p+2q+r)/4) and
-/// ((p+2q+r)/4, (q+r)/2, r) [...] Kept four times larger it needs no division."
-/// Exact whenever four times each number fits 128 bits.
-pub fn half(direction: usize, upper: bool, numbers: &[i128; 27]) -> [i128; 27] {
-    let number_at = |place: [usize; 3]| {
-        let at = PLACES.iter().position(|&other| other == place);
-        at.map_or(0, |at| numbers[at])
-    };
-    let twice = |x: i128| x.wrapping_add(x);
-    PLACES.map(|place| {
-        let [p, q, r] = [0, 1, 2].map(|along| {
-            let mut on_the_row = place;
-            on_the_row[direction] = along;
-            number_at(on_the_row)
-        });
-        match (upper, place[direction]) {
-            (false, 0) => twice(twice(p)),
-            (false, 1) => twice(p.wrapping_add(q)),
-            (true, 1) => twice(q.wrapping_add(r)),
-            (true, 2) => twice(twice(r)),
-            _ => p.wrapping_add(twice(q)).wrapping_add(r),
-        }
-    })
+/// The 27 coefficients of the level-m cube at `at`, in 01's numbering.  Exact whenever
+/// 64 times each fits 128 bits.
+fn coefficients(points: &[i64; 24], m: u32, at: [u32; 3]) -> [i128; 27] {
+    let low = at.map(|number| 2 * i128::from(number));
+    let block = Grid::block(points, m + 1, low, 3);
+    coefficients_from(block.on_the_cube([0; 3]))
 }
 
 // ------------------------------------------------------------------- grids --
@@ -291,15 +240,15 @@ impl Grid {
     /// 01: "A grid point of level m, for any whole m from 0 up, past the
     /// largest depth too, is (a, b, c)/2^m with a, b, c in 0..2^m".
     fn sampled(points: &[i64; 24], m: u32) -> Grid {
-        let side = (1usize << m.min(REACH_DEPTH + 1)) + 1;
-        Grid::block(points, two_to(m), [0; 3], side)
+        Grid::block(points, m, [0; 3], (1 << m) + 1)
     }
 
-    /// The points from `low` on, `side` of them on each axis, `steps` being 2^m.
+    /// The points of level m from `low` on, `side` of them on each axis.
     ///
     /// A partial derivative is the same all along its own direction, and is
     /// worked once for each pair of the other two numbers.
-    fn block(points: &[i64; 24], steps: i128, low: [i128; 3], side: usize) -> Grid {
+    fn block(points: &[i64; 24], m: u32, low: [i128; 3], side: usize) -> Grid {
+        let steps = two_to(m);
         let on_a_face = |direction: usize| -> Vec<[i128; 3]> {
             let along = |pair: usize| {
                 let (i, j) = ((pair / side) as i128, (pair % side) as i128);
@@ -341,7 +290,7 @@ impl Grid {
     }
 }
 
-// ------------------------------------------------------- looking at a level --
+// ------------------------------------------------------------------ record --
 
 /// A number that is not above 0, with its place in 01's numbering.
 #[derive(Clone, Copy)]
@@ -351,279 +300,114 @@ struct Fault {
     held: i128,
 }
 
-/// What was seen in one cube.
-struct Cube {
-    /// Grid numbers of its lowest corner.
-    at: [u32; 3],
-    /// Its lowest corner with J <= 0.
-    corner: Option<Fault>,
-    /// Its lowest-numbered coefficient <= 0.
-    coefficient: Option<Fault>,
-    /// Its least coefficient.
-    least: i128,
-}
-
-/// All cubes of one level, in path order, and the least J of its grid points.
-struct Level {
-    cubes: Vec<Cube>,
-    least_point: i128,
-}
-
-/// The cube of place `index` in path order.  01: "Cubes of one level stand in
-/// path order: by the first child number, then the second, then the third":
-/// the octal digits of the index are the child numbers less 1, and a child
-/// stands "at twice the grid numbers plus its place (0 or 1 on each axis)".
-fn cube_in_path_order(level: u32, index: usize) -> [u32; 3] {
-    let mut at = [0; 3];
-    for digit in (0..level).rev() {
-        let child = (index >> (3 * digit)) & 7;
-        for axis in 0..3 {
-            at[axis] = 2 * at[axis] + CORNERS[child][axis];
-        }
-    }
-    at
-}
-
 /// The lowest-numbered of some held numbers that is <= 0.
 fn first_fault(held: &[i128]) -> Option<Fault> {
     let found = held.iter().position(|&value| value <= 0)?;
     Some(Fault { number: found + 1, held: held[found] })
 }
 
-/// Eight times 64^m J at the eight corners of a cube, from that level's grid.
-fn corner_values(grid: &Grid, cube: [u32; 3]) -> [i128; 8] {
-    CORNERS.map(|place| {
-        let point = [0, 1, 2].map(|axis| (cube[axis] + place[axis]) as usize);
-        8 * grid.at(point)
-    })
-}
+/// 02, No. 8: "a record is nine words."
+pub const RECORD_WORDS: usize = 9;
 
-fn look_at_cube(own: &Grid, finer: &Grid, at: [u32; 3]) -> Option<Cube> {
-    let held = coefficients_from(finer.on_the_cube(at))?;
-    Some(Cube {
-        at,
-        corner: first_fault(&corner_values(own, at)),
-        coefficient: first_fault(&held),
-        least: held.iter().copied().min()?,
-    })
-}
-
-fn look_at_level(points: &[i64; 24], level: u32) -> Option<Level> {
-    let own = Grid::sampled(points, level);
-    let finer = Grid::sampled(points, level + 1);
-    let cubes: Option<Vec<Cube>> = (0..1usize << (3 * level))
-        .map(|index| look_at_cube(&own, &finer, cube_in_path_order(level, index)))
-        .collect();
-    Some(Level { cubes: cubes?, least_point: 8 * own.least() })
-}
-
-/// Whether all numbers of these points at this depth fit 128 bits, and the
-/// cubes of that depth can be listed.
-fn within_reach(points: &[i64; 24], depth: u32) -> bool {
-    depth <= REACH_DEPTH && points.iter().all(|x| x.unsigned_abs() <= REACH_RANGE as u64)
-}
-
-/// Every cube of every level from 0 to the depth.
-fn look_at_all(points: &[i64; 24], depth: u32) -> Option<Vec<Level>> {
-    if !within_reach(points, depth) {
-        return None;
-    }
-    (0..=depth).map(|level| look_at_level(points, level)).collect()
-}
-
-// ----------------------------------------------------------------- verdict --
-
-/// A fault, with the level and the place in path order of its cube.
-struct Found {
-    level: usize,
-    index: usize,
-    fault: Fault,
-}
-
-/// 01: "Invalid: some grid point of level D has J <= 0. The point named: take
-/// the least level that has such a point; at that level the first cube in path
-/// order with such a corner; in it the lowest such corner."
-fn invalid_point(levels: &[Level]) -> Option<Found> {
-    for (level, seen) in levels.iter().enumerate() {
-        for (index, cube) in seen.cubes.iter().enumerate() {
-            if let Some(fault) = cube.corner {
-                return Some(Found { level, index, fault });
-            }
-        }
-    }
-    None
-}
-
-/// "every coefficient of every level-[...] cube is above 0".
-fn all_positive(level: &Level) -> bool {
-    level.cubes.iter().all(|cube| cube.coefficient.is_none())
-}
-
-/// 01: "Valid: every coefficient of every level-D cube is above 0. The level
-/// named is the least at which that holds."
-fn valid_level(levels: &[Level]) -> Option<usize> {
-    if all_positive(levels.last()?) {
-        levels.iter().position(all_positive)
-    } else {
-        None
-    }
-}
-
-/// 01: "The cube named is the first of level D in path order with a
-/// coefficient <= 0, and in it the lowest-numbered such coefficient."
-fn undecided_cube(levels: &[Level]) -> Option<Found> {
-    let level = levels.len().checked_sub(1)?;
-    let index = levels[level].cubes.iter().position(|cube| cube.coefficient.is_some())?;
-    let fault = levels[level].cubes[index].coefficient?;
-    Some(Found { level, index, fault })
-}
-
-/// 01, "Cubes opened": "level by level, in path order, starting with the
-/// whole; a cube of level at most D is opened if it is the whole or its parent
-/// was opened and had a coefficient <= 0. Opening ends at the cube of an
-/// invalid answer, or when no cube is due."
-fn opened(levels: &[Level], invalid: Option<&Found>) -> i64 {
-    let mut count = 0;
-    let mut opened_above: Vec<bool> = Vec::new();
-    for (level, seen) in levels.iter().enumerate() {
-        let mut opened_here = vec![false; seen.cubes.len()];
-        for index in 0..seen.cubes.len() {
-            let parent = index / 8;
-            let due = level == 0
-                || (opened_above[parent] && levels[level - 1].cubes[parent].coefficient.is_some());
-            if due {
-                opened_here[index] = true;
-                count += 1;
-            }
-            if invalid.is_some_and(|found| found.level == level && found.index == index) {
-                return count;
-            }
-        }
-        opened_above = opened_here;
-    }
-    count
-}
-
-// ------------------------------------------------------------------ record --
-
-/// A held number as a record's word; one that passes 64 bits (possible only
-/// past 01's limits) stops at the nearest that does not.
-fn word(held: i128) -> i64 {
-    held.clamp(i128::from(i64::MIN), i128::from(i64::MAX)) as i64
-}
+pub type Record = [i64; RECORD_WORDS];
 
 /// What a record says, its value in full.
 #[derive(Clone, Copy, Debug, PartialEq, Eq)]
-pub struct Said {
+struct Said {
     /// 0 valid, 1 invalid, 2 undecided.
-    pub kind: i64,
-    pub level: u32,
+    kind: i64,
+    level: u32,
     /// Grid numbers of the point or of the cube.
-    pub at: [u32; 3],
+    at: [u32; 3],
     /// Number of the corner or of the coefficient.
-    pub number: usize,
-    pub held: i128,
-    pub opened: i64,
+    number: usize,
+    held: i128,
+    opened: i64,
 }
 
 impl Said {
-    fn first_words(&self) -> [i64; 6] {
-        let [a, b, c] = self.at.map(i64::from);
-        [self.kind, i64::from(self.level), a, b, c, self.number as i64]
+    /// 01's table, column "invalid": "level", "a, b, c of the point", "corner
+    /// number", "J times 8 * 64^level", "opened".  The corner is one of the cube `at`.
+    fn invalid(level: u32, at: [u32; 3], fault: Fault, opened: i64) -> Said {
+        let place = CORNERS[fault.number - 1];
+        let point = [0, 1, 2].map(|axis| at[axis] + place[axis]);
+        Said { kind: 1, level, at: point, number: fault.number, held: fault.held, opened }
     }
 
-    /// 01's table.
-    pub fn eight_words(&self) -> [i64; 8] {
-        let [kind, level, a, b, c, number] = self.first_words();
-        [kind, level, a, b, c, number, word(self.held), self.opened]
+    /// Column "undecided": "D", "a, b, c of the cube", "coefficient number",
+    /// "coefficient, held as above", "opened".
+    fn undecided(level: u32, at: [u32; 3], fault: Fault, opened: i64) -> Said {
+        Said { kind: 2, level, at, number: fault.number, held: fault.held, opened }
+    }
+
+    /// Column "valid": the level, the opened count, and 0 between.
+    fn valid(level: u32, opened: i64) -> Said {
+        Said { kind: 0, level, at: [0; 3], number: 0, held: 0, opened }
     }
 
     /// 02, No. 8: "Word 6 becomes two words, low 64 bits and then high, as two's
-    /// complement; the opened count moves to word 8, and a record is nine words."
-    pub fn nine_words(&self) -> [i64; 9] {
-        let [kind, level, a, b, c, number] = self.first_words();
+    /// complement; the opened count moves to word 8".
+    fn words(&self) -> Record {
+        let [a, b, c] = self.at.map(i64::from);
         let [low, high] = two_words(self.held);
-        [kind, level, a, b, c, number, low as i64, high as i64, self.opened]
+        let (level, number) = (i64::from(self.level), self.number as i64);
+        [self.kind, level, a, b, c, number, low, high, self.opened]
     }
 }
 
-/// Low 64 bits and then high, as two's complement.
-pub fn two_words(held: i128) -> [u64; 2] {
-    [held as u64, (held >> 64) as u64]
+/// "low 64 bits and then high, as two's complement", each as a signed number.
+pub fn two_words(held: i128) -> [i64; 2] {
+    [held as i64, (held >> 64) as i64]
 }
 
-/// 01's table, column "invalid": "level", "a, b, c of the point", "corner
-/// number", "J times 8 * 64^level", "opened".  The corner is one of the cube `at`.
-fn invalid(level: u32, at: [u32; 3], fault: Fault, opened: i64) -> Said {
-    let place = CORNERS[fault.number - 1];
-    let point = [0, 1, 2].map(|axis| at[axis] + place[axis]);
-    Said { kind: 1, level, at: point, number: fault.number, held: fault.held, opened }
+/// Low and high.  01: "low is the least coefficient of all level-D cubes; high is the
+/// least J over all level-D grid points; both times 8 * 64^D."
+pub type Bounds = (i128, i128);
+
+/// The largest depth at which every cube of every level is looked at.
+pub const EVERY_CUBE: u32 = 3;
+
+fn test_reach(points: &[i64; 24], depth: u32) {
+    assert!(depth <= REACH_DEPTH, "depth {depth} is past the reach");
+    let past = points.iter().find(|x| x.unsigned_abs() > REACH_RANGE as u64);
+    assert_eq!(past, None, "a coordinate is past the reach");
 }
 
-/// Column "undecided": "D", "a, b, c of the cube", "coefficient number",
-/// "coefficient, held as above", "opened".
-fn undecided(level: u32, at: [u32; 3], fault: Fault, opened: i64) -> Said {
-    Said { kind: 2, level, at, number: fault.number, held: fault.held, opened }
+/// The record and both bounds at every depth from 0 to `depth`, each level being looked
+/// at once.
+pub fn over_depths(points: &[i64; 24], depth: u32) -> Vec<(Record, Bounds)> {
+    test_reach(points, depth);
+    let (said, bounds) = if depth <= EVERY_CUBE {
+        every_cube::records_and_bounds(points, depth)
+    } else {
+        (walk::records(points, depth), walk::bounds(points, depth))
+    };
+    said.iter().map(Said::words).zip(bounds).collect()
 }
 
-/// Column "valid": the level, the opened count, and 0 between.
-fn valid(level: u32, opened: i64) -> Said {
-    Said { kind: 0, level, at: [0; 3], number: 0, held: 0, opened }
-}
-
-fn record_of(levels: &[Level]) -> Option<Said> {
-    let at = |found: &Found| levels[found.level].cubes[found.index].at;
-    if let Some(found) = invalid_point(levels) {
-        let opened = opened(levels, Some(&found));
-        return Some(invalid(found.level as u32, at(&found), found.fault, opened));
+/// The record alone at every depth from 0 to `depth`: past `EVERY_CUBE` in less time.
+pub fn records(points: &[i64; 24], depth: u32) -> Vec<Record> {
+    if depth <= EVERY_CUBE {
+        return over_depths(points, depth).into_iter().map(|(record, _)| record).collect();
     }
-    let opened = opened(levels, None);
-    if let Some(level) = valid_level(levels) {
-        return Some(valid(level as u32, opened));
-    }
-    let found = undecided_cube(levels)?;
-    Some(undecided(found.level as u32, at(&found), found.fault, opened))
+    test_reach(points, depth);
+    walk::records(points, depth).iter().map(Said::words).collect()
 }
 
 /// 01: "Their record at a depth follows from the verdict by this table".
-/// `OUT_OF_REACH` past the reach of this program.
-pub fn record(points: &[i64; 24], depth: u32) -> [i64; 8] {
-    let said = look_at_all(points, depth).and_then(|levels| record_of(&levels));
-    said.map_or(OUT_OF_REACH, |said| said.eight_words())
+pub fn record(points: &[i64; 24], depth: u32) -> Record {
+    records(points, depth)[depth as usize]
 }
 
 // ------------------------------------------------------------------ bounds --
 
-/// 01: "low is the least coefficient of all level-D cubes; high is the least J
-/// over all level-D grid points; both times 8 * 64^D."
-fn level_bounds(level: &Level) -> (i128, i128) {
-    let low = level.cubes.iter().map(|cube| cube.least).min();
-    (low.unwrap_or(i128::MIN), level.least_point)
-}
-
-/// Both bounds of eight points at a depth, as 01 defines them.
-///
-/// Past the reach, the bounds that say nothing: the least and the greatest
-/// 128-bit number.
-pub fn bounds_of(points: &[i64; 24], depth: u32) -> (i128, i128) {
-    let nothing_known = (i128::MIN, i128::MAX);
-    if !within_reach(points, depth) {
-        return nothing_known;
+/// Both bounds of eight points at a depth.
+pub fn bounds_of(points: &[i64; 24], depth: u32) -> Bounds {
+    if depth <= EVERY_CUBE {
+        return over_depths(points, depth)[depth as usize].1;
     }
-    look_at_level(points, depth).map_or(nothing_known, |level| level_bounds(&level))
-}
-
-/// What a record says, and low and high.
-pub type RecordAndBounds = (Said, (i128, i128));
-
-/// The record and both bounds at every depth from 0 to `depth`, each level
-/// being looked at once: what `record` and `bounds_of` give one by one.
-/// None past the reach.
-pub fn over_depths(points: &[i64; 24], depth: u32) -> Option<Vec<RecordAndBounds>> {
-    let levels = look_at_all(points, depth)?;
-    let at_depth =
-        |depth: usize| Some((record_of(&levels[..=depth])?, level_bounds(&levels[depth])));
-    (0..levels.len()).map(at_depth).collect()
+    test_reach(points, depth);
+    walk::bounds(points, depth)[depth as usize]
 }
 
 /// What the bounds service answers.
@@ -631,24 +415,23 @@ pub fn over_depths(points: &[i64; 24], depth: u32) -> Option<Vec<RecordAndBounds
 pub struct BoundsAnswer {
     /// 0, or the number of the refusal.
     pub number: u32,
-    pub low: i64,
-    pub high: i64,
+    pub low: i128,
+    pub high: i128,
 }
 
 /// 01: "The bounds service takes eight points and a depth and answers 0 with
 /// both bounds. It refuses with 1 and then 6 and no other, by number alone,
 /// and both bounds are then 0."
 pub fn bounds(limits: &Limits, points: &[i32; 24], depth: u32) -> BoundsAnswer {
-    let limits = limits.effective();
     let points = points.map(i64::from);
     if depth > limits.depth {
         return BoundsAnswer { number: 1, low: 0, high: 0 };
     }
-    if first_unusable(&limits, &points).is_some() {
+    if first_unusable(limits, &points).is_some() {
         return BoundsAnswer { number: 6, low: 0, high: 0 };
     }
     let (low, high) = bounds_of(&points, depth);
-    BoundsAnswer { number: 0, low: word(low), high: word(high) }
+    BoundsAnswer { number: 0, low, high }
 }
 
 // -------------------------------------------------------------- inspection --
@@ -675,7 +458,7 @@ fn mesh_refusal(
     report: &[i64],
 ) -> u32 {
     if depth > limits.depth {
-        return 1; // "depth above 3"
+        return 1; // "depth above 3", now 8
     }
     if coordinates.len() % 3 != 0 || coordinates.len() / 3 > limits.nodes {
         return 2; // "not a multiple of 3, or over 5,000 nodes"
@@ -683,8 +466,8 @@ fn mesh_refusal(
     if indices.len() % 8 != 0 || indices.len() / 8 > limits.elements {
         return 3; // "not a multiple of 8, or over 1,000 elements"
     }
-    if report.len() != indices.len() {
-        return 4; // "not exactly 8 words an element": 8 indices, 8 words
+    if report.len() != indices.len() / 8 * RECORD_WORDS {
+        return 4; // "not exactly 8 words an element", now 9
     }
     0
 }
@@ -731,25 +514,24 @@ pub fn points_of(coordinates: &[i32], element: &[u32]) -> Option<[i32; 24]> {
 
 /// The record of one element.  01: "Within an element all eight indices are
 /// tested before any coordinate"; 02, No. 5: 7 is "tested after 5 and before 6".
-fn element_record(limits: &Limits, coordinates: &[i32], element: &[u32], depth: u32) -> [i64; 8] {
+fn element_record(limits: &Limits, coordinates: &[i32], element: &[u32], depth: u32) -> Record {
+    let refused = |number: i64, place: i64, word: i64| [number, place, word, 0, 0, 0, 0, 0, 0];
     if let Some((place, index)) = first_bad_index(coordinates.len() / 3, element) {
-        return [5, place, index, 0, 0, 0, 0, 0];
+        return refused(5, place, index);
     }
     if let Some((lower, higher)) = first_pair(element) {
-        return [7, lower, higher, 0, 0, 0, 0, 0];
+        return refused(7, lower, higher);
     }
-    let Some(points) = points_of(coordinates, element) else {
-        return OUT_OF_REACH; // not met: every index names a node here
-    };
+    let points = points_of(coordinates, element).expect("every index names a node");
     let points = points.map(i64::from);
     if let Some((place, axis)) = first_unusable(limits, &points) {
-        return [6, place, axis, 0, 0, 0, 0, 0];
+        return refused(6, place, axis);
     }
     record(&points, depth)
 }
 
 /// One more record of its kind.
-fn counted(mut counts: Inspection, record: &[i64; 8]) -> Inspection {
+fn counted(mut counts: Inspection, record: &Record) -> Inspection {
     let count = match record[0] {
         0 => &mut counts.valid,
         1 => &mut counts.invalid,
@@ -760,7 +542,7 @@ fn counted(mut counts: Inspection, record: &[i64; 8]) -> Inspection {
     counts
 }
 
-/// Inspection of a mesh: a record of 8 words for each element, and the counts.
+/// Inspection of a mesh: a record for each element, and the counts.
 ///
 /// 01: refusals 1 to 4 leave the "report space untouched, counts 0"; refusals
 /// 5 to 7 are "that element's record only".
@@ -771,14 +553,14 @@ pub fn inspect(
     depth: u32,
     report: &mut [i64],
 ) -> Inspection {
-    let limits = limits.effective();
-    let number = mesh_refusal(&limits, coordinates, indices, depth, report);
+    let number = mesh_refusal(limits, coordinates, indices, depth, report);
     if number != 0 {
         return Inspection { number, ..Inspection::default() };
     }
     let mut counts = Inspection::default();
-    for (element, words) in indices.chunks_exact(8).zip(report.chunks_exact_mut(8)) {
-        let record = element_record(&limits, coordinates, element, depth);
+    let spaces = report.chunks_exact_mut(RECORD_WORDS);
+    for (element, words) in indices.chunks_exact(8).zip(spaces) {
+        let record = element_record(limits, coordinates, element, depth);
         words.copy_from_slice(&record);
         counts = counted(counts, &record);
     }
@@ -806,10 +588,10 @@ pub fn stamp(inspection: &Inspection) -> Option<Stamp> {
     }
 }
 
-/// The same, read off the report of an accepted mesh: eight words an element, of
-/// which the first is 0 in a valid record and 2 in an undecided one.
+/// The same, read off the report of an accepted mesh: of each record the first word,
+/// which is 0 in a valid one and 2 in an undecided one.
 pub fn stamp_of_report(report: &[i64]) -> Stamp {
-    let mut kinds = report.iter().step_by(8);
+    let mut kinds = report.iter().step_by(RECORD_WORDS);
     if kinds.clone().any(|&kind| kind != 0 && kind != 2) {
         Stamp::Faulty
     } else if report.is_empty() || kinds.any(|&kind| kind != 0) {

@@ -1,13 +1,17 @@
 //! The printed slip of 02, No. 2.
 
-use crate::lot::{read_lot, Lot, AMPLE};
-use crate::{inspect, stamp, Inspection, Limits, Stamp};
+use crate::lot::{read_lot, Lot, AMPLE, ELEMENT_WORDS};
+use crate::{inspect, stamp, Inspection, Limits, Stamp, RECORD_WORDS};
 
 #[cfg(test)]
 mod tests;
 
 /// 02: the program "inspects at depth 3 and prints."
 const DEPTH: u32 = 3;
+
+/// 02, No. 8: "a program holding a report keeps to 900 elements; the slip answers 26 to
+/// a longer lot without fault."
+pub const MOST_ELEMENTS: usize = 900;
 
 /// Words of bytes with one space between them, and 01's line feed: "Every printed
 /// line, the last included, ends in one line feed."
@@ -43,20 +47,29 @@ fn closing_lines(answer: &Inspection) -> [Vec<u8>; 2] {
 }
 
 fn slip_of_lot(lot: &Lot) -> Vec<u8> {
-    let mut report = vec![0; lot.elements.len()];
+    let mut report = vec![0; lot.elements.len() / ELEMENT_WORDS * RECORD_WORDS];
     let answer = inspect(&Limits::base(), &lot.nodes, &lot.elements, DEPTH, &mut report);
     let mut lines = vec![line(&[b"lot", &lot.label])];
-    let records = (0..).zip(report.chunks_exact(8));
+    let records = (0..).zip(report.chunks_exact(RECORD_WORDS));
     lines.extend(records.map(|(element, record)| element_line(lot, element, record)));
     lines.extend(closing_lines(&answer));
     lines.concat()
 }
 
+/// The lot of a file, if it is read and its report can be held.
+fn lot_to_print(file: &[u8]) -> Result<Lot, u32> {
+    let lot = read_lot(file, AMPLE)?.lot;
+    if lot.elements.len() / ELEMENT_WORDS > MOST_ELEMENTS {
+        return Err(26);
+    }
+    Ok(lot)
+}
+
 /// What is printed of a file.  "A refused lot prints the single line "refused"
 /// with a space and its number. The program never lacks room."
 pub fn slip(file: &[u8]) -> Vec<u8> {
-    match read_lot(file, AMPLE) {
+    match lot_to_print(file) {
         Err(number) => line_of_numbers(&[b"refused"], &[number]),
-        Ok(reading) => slip_of_lot(&reading.lot),
+        Ok(lot) => slip_of_lot(&lot),
     }
 }

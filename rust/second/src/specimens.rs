@@ -239,7 +239,7 @@ impl Shaker {
         turned
     }
 
-    /// An element of a random kind; every coordinate is usable by 01.
+    /// An element of a random kind; every coordinate is within the old range, -4,096..4,096.
     pub fn element(&mut self) -> Points {
         let points = match self.between(0, 11) {
             0 | 1 => self.small(),

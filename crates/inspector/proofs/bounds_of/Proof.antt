@@ -1,9 +1,8 @@
 -- `inspector::bounds_of` meets its contract: by the depth and the first coordinate out of range. Assumes nothing.
-use mathlib.Core.Path.{sym, ap, ap₂, _∙_}
+use mathlib.Core.Path.{sym, ap, _∙_}
 use native.Mathlib.Omega.{arith}
 use borrow.Kind.Array.{eSInt, good-length}
-use mir.Syntax.{w32, w64}
-use mir.ValLaws.{toZ-ofZ}
+use mir.Syntax.{w32}
 use Rattle.definitions.specs.Limits.{base}
 use Rattle.definitions.specs.Mesh.{bounds}
 use Rattle.verdict_theory.specs.Extremes.{Extremes}
@@ -26,11 +25,12 @@ enum-known-first c = search needs
 enum-told : tie.Need-enum-told
 enum-told c = search needs
 
-points-bounds-requires : tie.Need-points-bounds-requires
-points-bounds-requires c κs =
+bounds-requires : tie.Need-bounds-requires
+bounds-requires c κs =
     let o = c .before .before .before in
     let s = o .before .before .before in
-    (record { small = read-within base (s .args .t1) (sym (o .out-of-range .ensures) ∙ ap firstOf (c .before .enum-told .given .1)) (good-length (eSInt w32) 24 (s .args .t1) _ (s .good .0)) }, omega (arith, o .before .before .if1 .left))
+    let sized = good-length (eSInt w32) 24 (s .args .t1) _ (s .good .0) in
+    ((record { small = read-within base (s .args .t1) (sym (o .out-of-range .ensures) ∙ ap firstOf (c .before .enum-told .given .1)) sized }, omega (arith, o .before .before .if1 .left)), sized)
 
 returns-2 : tie.Need-returns-2
 returns-2 c =
@@ -45,9 +45,7 @@ returns-3 c =
     let e = r .before .before in
     let o = e .before .before in
     let s = o .before .before .before in
-    let low = toZ-ofZ w64 (r .points-bounds .result .low) (record { sfits = c .before .struct-told .given .0 .1 }) in
-    let high = toZ-ofZ w64 (r .points-bounds .result .high) (record { sfits = c .struct-told2 .given .1 .0 .1 }) in
-    ap₂ bounds (low ∙ ap (λ (x : Extremes). x .low) (r .points-bounds .ensures)) (high ∙ ap (λ (x : Extremes). x .high) (r .points-bounds .ensures))
+    ap (λ (x : Extremes). bounds (x .low) (x .high)) (r .bounds .ensures)
     ∙ sym (bounds-inside base (s .args .t1) (s .args .depth) (o .before .before .if1 .left) (sym (o .out-of-range .ensures) ∙ ap firstOf (e .enum-told .given .1)))
 
 pub bounds-of-spec : {M : Type 1} → statement M
@@ -58,6 +56,6 @@ bounds-of-spec =
     out-of-range-requires
     enum-known-first
     enum-told
-    points-bounds-requires
+    bounds-requires
     returns-2
     returns-3)

@@ -2,13 +2,14 @@
 use mathlib.Core.Path.{_≡_, sym, _∙_, ap, ap₂}
 use mathlib.Core.Bool.{Bool, true, false}
 use mathlib.Core.Option.{Option}
-use Prim.Native.Nat.{_*_, _/_}
+use Prim.Native.Nat.{_*_, _/_, _≤_}
+use native.Mathlib.Omega.{arith}
 use borrow.Author.Needs.{needs}
 use borrow.Author.Tests.{lt-ltb, le-ltb, eq-eqb, ne-eqb, not-true, not-false}
 use lib.Dec.{ltb, eqb}
 use Rattle.definitions.specs.Limits.{base, recordWords}
 use Rattle.definitions.specs.Mesh.{MeshRefusal, wellSized, refusal}
-use Rattle.mesh_checks.specs.Refusals.{refusalBy, refusal-by}
+use Rattle.mesh_checks.specs.Refusals.{refusalBy, well-sized, refusal-by}
 use Rattle.mesh_checks.proofs.check.Statement.{statement}
 use Rattle.mesh_checks.proofs.check.Tie as tie
 
@@ -58,7 +59,11 @@ returns-3 : tie.Need-returns-3
 returns-3 c = sym (element-test (c .before) false (not-true (c .before .well-sized2 .result) (c .if3 .taken)))
 
 mul-if4 : tie.Need-mul-if4
-mul-if4 c = search needs
+mul-if4 c =
+    let t = c .before in
+    let indices = t .before .before .before .before .args .indices in
+    let few : indices / 8 ≤ base .elements = well-sized indices 8 (base .elements) (sym (t .well-sized2 .ensures) ∙ not-false (t .well-sized2 .result) (c .if3 .left)) .1 in
+    record { fits = omega (arith, few) }
 
 -- the last
 space-test : (c : tie.Else3) (b : Bool) → let s = c .before .before .before .before .before in space s ≡ b → due s ≡ refusalBy false true true b

@@ -3,6 +3,7 @@ use mathlib.Core.Path.{_≡_, refl, sym, ap, _∙_, subst}
 use mathlib.Core.List.{List}
 use mathlib.Core.Option.{some}
 use Prim.Native.Nat.{ℕ}
+use lib.ListN.{length}
 use lib.IntN.{ℤ}
 use denote.Ref.{now}
 use Rattle.definitions.specs.Limits.{base}
@@ -51,8 +52,9 @@ module _ (c : tie.After-fault) where
   refused : {x : Element} → c .fault .result ≡ x → (f : Fault) → elementOf x ≡ some f → faultWords f ≡ elementRecord base coordinates ix depth
   refused e f h = sym (element-fault base coordinates ix depth f (fault-is e ∙ h))
 
-points-record-requires : tie.Need-points-record-requires
-points-record-requires c κs = let e = c .before in (in-range (e .before .before) (e .enum-told .given .1), e .before .before .before .before .before .pre .1)
+record-requires : tie.Need-record-requires
+record-requires c κs = let e = c .before in let f = e .before .before in
+    ((in-range f (e .enum-told .given .1), f .before .before .before .pre .1), ap length (gathered f (e .enum-told .given .1)) ∙ length-points (coordinates f) (ix f))
 
 enum-known-fault : tie.Need-enum-known-fault
 enum-known-fault c = search needs
@@ -76,7 +78,7 @@ returns : tie.Need-returns
 returns c =
     let e = c .before .before in
     let s = e .before .before in
-    c .points-record .ensures ∙ ap (λ (xs : List ℤ). recordOf xs (depth s)) (gathered s (e .enum-told .given .1)) ∙ sym (element-points base (coordinates s) (ix s) (depth s) (fault-is s (e .enum-told .given .1)))
+    c .«record» .ensures ∙ ap (λ (xs : List ℤ). recordOf xs (depth s)) (gathered s (e .enum-told .given .1)) ∙ sym (element-points base (coordinates s) (ix s) (depth s) (fault-is s (e .enum-told .given .1)))
 
 returns-2 : tie.Need-returns-2
 returns-2 c = let f = c .before .before in c .fault-words .ensures ∙ refused (f .before .before) (f .fault2 .given .1) _ refl
@@ -93,7 +95,7 @@ element-spec =
     (tie.spec
     fault-requires
     enum-told
-    points-record-requires
+    record-requires
     enum-known-fault
     fault-words-requires
     enum-known-fault-2

@@ -1,19 +1,15 @@
 -- `narrow_search::record` meets its contract: between passes the levels before are all blocked; the loop ends at a pass that settles, or at the depth. Assumes nothing.
-use mathlib.Core.Path.{_≡_, refl, sym, ap, ap₂, subst, _∙_}
+use mathlib.Core.Path.{_≡_, refl, sym, ap, ap₂, _∙_}
 use mathlib.Core.Bool.{Bool, true, false, _&&_, and-true, and-eq-true-iff}
 use Prim.Native.Nat.{_+_, _-_, _≤_, _<_, zero-le}
 use native.Mathlib.Omega.{arith}
-use lib.Dec.{ltb, lit<}
-use mir.Syntax.{w64}
-use mir.Val.{SFits}
+use lib.Dec.{ltb}
 use denote.Ref.{now}
 use borrow.Author.Needs.{needs}
 use borrow.Author.Tests.{ltb-true, ltb-false}
-use Rattle.foundation.specs.Words.{sfits-below}
 use Rattle.definitions.specs.Record.{verdictWords, recordOf}
-use Rattle.verdict_theory.specs.Named.{Names}
 use Rattle.search_theory.specs.Children.{small-less}
-use Rattle.search_theory.specs.Levels.{isBlocked, fresh, settled, named-small, Made, made-first, made-next, made-room}
+use Rattle.search_theory.specs.Levels.{isBlocked, fresh, settled, Made, made-first, made-next, made-room}
 use Rattle.narrow_rows.specs.Word.{largest}
 use Rattle.search_pass.specs.Meaning.{passWords}
 use Rattle.narrow_search.proofs.record.Statement.{statement}
@@ -64,15 +60,14 @@ loop-again : tie.Need-loop-again Inv-loop μ-loop
 loop-again c = let l = c .before .before .before .before .before in let s = c .before .before .before .before .before .before .before .before in let g = now (s .args .g) in let made = l .loop .inv .1 in let go = going (c .before .before) in
     (omega arith, made-next passWords g (l .loop .m) (l .loop .r) _ made (go .1) (c .pass-at2 .ensures (made .pass) (made .is)))
 
-settled-in-one-word-requires : tie.Need-settled-in-one-word-requires Inv-loop μ-loop
-settled-in-one-word-requires c κs = tt
+settled-requires : tie.Need-settled-requires Inv-loop μ-loop
+settled-requires c κs = tt
 
 returns : tie.Need-returns Inv-loop μ-loop
 unfolding recordOf
 returns c xs e = let l = c .before .before .before .before .before in let s = c .before .before .before .before .before .before .before .before in let made = l .loop .inv .1 in
     let final = settled xs (l .loop .m) (s .args .depth) (made .pass) (l .loop .inv .0) (made .at xs e) (λ b. last (c .before .before) b) in
-    let fits = named-small largest xs (now (s .args .g)) (s .args .depth) e (s .pre .0) (SFits w64) (λ v h. sfits-below v h (lit< tt)) in
-    c .settled-in-one-word .ensures (made .pass) (made .is) (subst (Names (λ f. SFits w64 (f .value))) (sym (final .0)) fits) ∙ ap₂ verdictWords (final .0) (final .1)
+    c .settled .ensures (made .pass) (made .is) ∙ ap₂ verdictWords (final .0) (final .1)
 
 pub record-spec : {M : Type 1} → statement M
 record-spec =
@@ -87,5 +82,5 @@ record-spec =
     pass-at-requires-2
     loop-less
     loop-again
-    settled-in-one-word-requires
+    settled-requires
     returns)

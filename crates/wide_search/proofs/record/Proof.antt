@@ -11,7 +11,8 @@ use Rattle.search_theory.specs.Children.{small-less}
 use Rattle.search_theory.specs.Levels.{isBlocked, fresh, settled, Made, made-first, made-next, made-room}
 use Rattle.wide_rows.specs.Word.{largest}
 use Rattle.wide_array.specs.Values.{values}
-use Rattle.search_pass.specs.Meaning.{passWords, wideVerdictWords, wideRecordOf}
+use Rattle.definitions.specs.Record.{verdictWords, recordOf}
+use Rattle.search_pass.specs.Meaning.{passWords}
 use Rattle.wide_search.proofs.record.Statement.{statement}
 use Rattle.wide_search.proofs.record.Tie as tie
 
@@ -64,10 +65,10 @@ settled-requires : tie.Need-settled-requires Inv-loop μ-loop
 settled-requires c κs = tt
 
 returns : tie.Need-returns Inv-loop μ-loop
-unfolding wideRecordOf
+unfolding recordOf
 returns c xs e = let l = c .before .before .before .before .before in let made = l .loop .inv .1 in
     let final = settled xs (l .loop .m) (c .before .before .before .before .before .before .before .before .args .depth) (made .pass) (l .loop .inv .0) (made .at xs e) (λ b. last (c .before .before) b) in
-    c .settled .ensures (made .pass) (made .is) ∙ ap₂ wideVerdictWords (final .0) (final .1)
+    c .settled .ensures (made .pass) (made .is) ∙ ap₂ verdictWords (final .0) (final .1)
 
 pub record-spec : {M : Type 1} → statement M
 record-spec =

@@ -1,12 +1,13 @@
 //! Lot files to read.
 
 use super::{
-    about, all_numbered, below, by_number, bytes, element, full, good, labels, lists, made, node,
-    random_label, random_lot, small, spaces, with_groups, Corpora, Draw, Service,
+    about, below, bytes, element, full, good, labels, lists, node, random_label, random_lot, small,
+    spaces, with_groups,
 };
 use crate::check::ample_space;
 use crate::draw::{once_in, one_of};
 use crate::question::Question;
+use crate::service::{all_numbered, by_number, made, Corpora, Draw, Service};
 use second::lot::writing::{
     write_element, write_end, write_group, write_label, write_node, write_record,
 };

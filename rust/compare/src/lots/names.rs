@@ -1,10 +1,8 @@
 //! Elements to name, with groups that fit together and with any others.
 
-use super::{
-    all_numbered, any_number, any_numbers, below, bytes, lists, made, numbered, random_label,
-    random_lot, writes, Corpora, Draw, Service,
-};
+use super::{any_number, any_numbers, below, bytes, lists, random_label, random_lot, writes};
 use crate::question::Question;
+use crate::service::{all_numbered, made, numbered, Corpora, Draw, Service};
 use second::lot::{Groups, Lot, ELEMENT_WORDS};
 use second::specimens::Shaker;
 
@@ -13,7 +11,7 @@ pub const SERVICE: Service = Service {
     listed,
     drawn: &DRAWN,
     count: |plan| plan.names,
-    met: |words| vec![if words[0] == 0 { bearer(words[1] == 1) } else { numbered(words[0]) }],
+    met: |_, words| vec![if words[0] == 0 { bearer(words[1] == 1) } else { numbered(words[0]) }],
     needed: || [vec![bearer(true), bearer(false)], all_numbered([24, 23, 25, 28])].concat(),
 };
 

@@ -1,34 +1,48 @@
 //! Lot files to print.
 
-use super::{
-    all_numbered, below, full, good, made, random_label, with_groups, Corpora, Draw, Service,
-};
-use crate::cases::cases;
+use super::{below, full, good, random_label, with_groups};
+use crate::cases::{cases, Case};
 use crate::check::slip_text;
-use crate::draw::{element, element_indices, one_of, Kind};
-use crate::program::pairs_of_places;
+use crate::draw::{element, element_indices, narrow, one_of, powers, Kind, OLD_RANGE, RANGE};
+use crate::program::{pairs_of_places, IN_ORDER, RECORD_WORDS};
 use crate::question::Question;
-use second::lot::Lot;
-use second::specimens::Shaker;
+use crate::service::{all_numbered, made, Corpora, Draw, Service};
+use second::lot::{read_lot, Lot, AMPLE};
+use second::specimens::{cube, rings_exchanged, Shaker};
 
 pub const SERVICE: Service =
     Service { name: "slips", listed, drawn: &DRAWN, count: |plan| plan.slips, met, needed };
 
-/// What a slip shows: the number of a refused lot; of another the kinds of its
-/// records, and its stamp.
-fn met(words: &[i64]) -> Vec<String> {
+/// What a slip shows: the number of a refused lot, and whether it reads without fault;
+/// of another the kinds of its records, and its stamp.
+fn met(question: &Question, words: &[i64]) -> Vec<String> {
+    let Question::Slip { file } = question else {
+        unreachable!("a slip");
+    };
     let text = String::from_utf8_lossy(&slip_text(words)).into_owned();
     if let Some(number) = text.strip_prefix("refused ") {
-        return vec![format!("number {}", number.trim_end())];
+        let number = format!("number {}", number.trim_end());
+        return vec![if read_lot(file, AMPLE).is_ok() { without_fault(&number) } else { number }];
     }
     let lines: Vec<&str> = text.lines().collect();
     let [_, records @ .., _, stamp] = &lines[..] else {
         return vec!["no slip".to_string()];
     };
-    // the first of the eight words at the end of a line
-    let kind = |line: &&str| line.rsplit(' ').nth(7).unwrap_or("none").to_string();
-    let kinds = records.iter().map(|line| record(&kind(line)));
-    kinds.chain([stamp.to_string()]).collect()
+    // a record's words are the last of a line
+    let word = |line: &str, word: usize| {
+        line.rsplit(' ').nth(RECORD_WORDS - 1 - word).unwrap_or("none").to_string()
+    };
+    let met_in_line = |line: &&str| {
+        let far = !["0", "-1"].contains(&&word(line, 7)[..]);
+        [Some(record(&word(line, 0))), far.then(|| FAR.to_string())].into_iter().flatten()
+    };
+    records.iter().flat_map(met_in_line).chain([stamp.to_string()]).collect()
+}
+
+const FAR: &str = "values past 65 bits";
+
+fn without_fault(number: &str) -> String {
+    format!("{number} of a lot without fault")
 }
 
 fn record(kind: &str) -> String {
@@ -39,7 +53,12 @@ fn record(kind: &str) -> String {
 fn needed() -> Vec<String> {
     let records = ["0", "1", "2", "5", "6", "7"].map(record);
     let stamps = ["stamp sound", "stamp faulty", "stamp open"].map(str::to_string);
-    all_numbered(20..=26).into_iter().chain(records).chain(stamps).collect()
+    let others = [without_fault("number 26"), FAR.to_string()];
+    all_numbered(20..=26).into_iter().chain(others).chain(records).chain(stamps).collect()
+}
+
+fn case_named(name: &str) -> Case {
+    cases().into_iter().find(|case| case.name == name).expect("a case")
 }
 
 fn question(lot: &Lot) -> Question {
@@ -119,12 +138,25 @@ fn refused() -> Vec<Question> {
     files.map(|file| Question::Slip { file }).to_vec()
 }
 
-/// Lots of no elements to 1,000, one of each number of digits and the next, in
-/// which every element is refused; and full ones.
+/// Lots of no elements to 1,000, one of each number of digits and the next, and about 900,
+/// in which every element is refused; full ones, and one that is full with 900; and about
+/// 900 elements that are not refused.
 fn long() -> Vec<Question> {
-    let counts = [0, 1, 9, 10, 11, 99, 100, 101, 999, 1000];
-    let lots = counts.map(|count| good(b"many", 1, count as usize).group(count.min(5), b""));
-    lots.iter().chain(&full()).map(question).collect()
+    let counts = [0, 1, 9, 10, 11, 99, 100, 101, 899, 900, 901, 902, 999, 1000];
+    let mut lots =
+        counts.map(|count| good(b"many", 1, count).group(count.min(5) as u32, b"")).to_vec();
+    lots.extend(full());
+    lots.push(good(b"8 bytes.", 2070, 900));
+    let [a, c] = ["A", "C"].map(case_named);
+    let both = [a.points, c.points].concat();
+    for count in [899, 900, 901, 1000] {
+        for last in [0, 8] {
+            let mut elements = a.indices.repeat(count - 1);
+            elements.extend(a.indices.map(|index| index + last));
+            lots.push(Lot { nodes: both.clone(), elements, ..Lot::default() });
+        }
+    }
+    lots.iter().map(question).collect()
 }
 
 /// Words of every number of digits: the index that an element is refused by.
@@ -132,6 +164,19 @@ fn digits() -> Vec<Question> {
     let powers = (0..10).map(|digits| 10u32.pow(digits));
     let indices = powers.flat_map(|power| [power - 1, power, power + 1]).chain([u32::MAX]);
     indices.map(|index| question(&Lot::new(b"", &[], &[[index; 8]]))).collect()
+}
+
+/// Values of every length in bits, also past 64: the cases C and F times powers of two,
+/// and the largest cubes with their rings exchanged.
+fn values() -> Vec<Question> {
+    let larger = ["C", "F"].map(|name| powers(case_named(name).points.map(i64::from))).concat();
+    let largest = [RANGE, RANGE - 1].map(|end| narrow(rings_exchanged(&cube(-end, end))));
+    let lot = |points: &[i32; 24]| Lot {
+        nodes: points.to_vec(),
+        elements: IN_ORDER.to_vec(),
+        ..Lot::default()
+    };
+    larger.iter().chain(&largest).map(|points| question(&lot(points))).collect()
 }
 
 /// Every pair of places with one index: all pairs in one lot, and one lot of each.
@@ -156,8 +201,7 @@ fn named_twice() -> Vec<Question> {
 /// Lots with each choice of a valid, an invalid, an undecided and a refused element;
 /// and one refused among valid ones.
 fn stamped() -> Vec<Question> {
-    let of = |name: &str| cases().into_iter().find(|case| case.name == name).expect("a case");
-    let nodes = ["A", "C", "F"].map(|name| of(name).points).concat();
+    let nodes = ["A", "C", "F"].map(|name| case_named(name).points).concat();
     let [a, c, f, refused] = [0, 8, 16, 17];
     let chosen = |choice: u32| {
         let kinds = [a, c, f, refused].into_iter().enumerate();
@@ -177,6 +221,7 @@ fn listed() -> Corpora {
         ("every refusal", refused),
         ("every pair of places", named_twice),
         ("numbers of all lengths", digits),
+        ("values of all lengths", values),
         ("up to 1,000 elements", long),
         ("prefixes and byte changes of one", changed),
     ])
@@ -186,12 +231,13 @@ fn listed() -> Corpora {
 
 /// A lot of a few elements of several kinds, with bad and repeated indices among them.
 fn random_mesh(shaker: &mut Shaker) -> Lot {
+    let range = one_of(shaker, &[OLD_RANGE, RANGE]);
     let kinds = [Kind::Uniform, Kind::Shaken, Kind::Small, Kind::Mirrored, Kind::Extreme];
     let blocks = below(shaker, 4);
     let nodes: Vec<i32> = (0..blocks)
         .flat_map(|_| {
             let kind = one_of(shaker, &kinds);
-            element(shaker, kind)
+            element(shaker, kind, range)
         })
         .collect();
     let elements =

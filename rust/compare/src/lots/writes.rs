@@ -1,11 +1,12 @@
 //! Lots to write.
 
 use super::{
-    about, all_numbered, any_number, any_numbers, below, by_number, bytes, full, good, labels,
-    lists, made, random_label, random_lot, small, space, Corpora, Draw, Service,
+    about, any_number, any_numbers, below, bytes, full, good, labels, lists, random_label,
+    random_lot, small, space,
 };
 use crate::draw::{once_in, one_of};
 use crate::question::Question;
+use crate::service::{all_numbered, by_number, made, Corpora, Draw, Service};
 use second::lot::{Groups, Lot, ELEMENT_WORDS, MOST_BYTES, NODE_WORDS};
 use second::specimens::Shaker;
 

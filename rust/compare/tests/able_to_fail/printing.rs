@@ -1,9 +1,11 @@
 //! Printers of slips that are wrong in one thing.
 
 use crate::{alike, all_are_caught, ask_service};
+use compare::check::of_two_words;
 use compare::lots::PRINTING;
-use compare::program::{lay, Prints, Program, SlipSpace, SECOND};
+use compare::program::{lay, Prints, Program, SlipSpace, RECORD_WORDS, SECOND};
 use second::lot::{read_lot, Lot, AMPLE};
+use second::slip::MOST_ELEMENTS;
 use second::{inspect, stamp, Inspection, Limits, Stamp};
 
 faults! {
@@ -17,6 +19,9 @@ faults! {
     LeadingZeros,
     ThousandsApart,
     LastWordMissing,
+    HighWordMissing,
+    HighWordFirst,
+    ValueAsOneNumber,
     // names
     EmptyNameSpaceLost,
     EmptyLabelSpaceLost,
@@ -46,6 +51,10 @@ faults! {
     RefusedWithASlip,
     RefusedWithoutANumber,
     LackOfRoom,
+    RefusedAt900,
+    TakenAt901,
+    TakenTo1000,
+    RefusedWithOtherNumber,
     // lent space
     ZeroAtTheEnd,
     RestCleared,
@@ -101,8 +110,14 @@ impl Wrong {
     fn element_line(&self, lot: &Lot, element: u32, record: &[i64]) -> String {
         let number = element + u32::from(!self.is(Fault::CountsFromZero));
         let mut words: Vec<String> = record.iter().map(|&word| self.word(word)).collect();
-        if self.is(Fault::LastWordMissing) {
-            words.pop();
+        match self.0 {
+            Some(Fault::LastWordMissing) => drop(words.pop()),
+            Some(Fault::HighWordMissing) => drop(words.remove(7)),
+            Some(Fault::HighWordFirst) => words.swap(6, 7),
+            Some(Fault::ValueAsOneNumber) => {
+                words.splice(6..8, [of_two_words(&record[6..8]).to_string()]);
+            }
+            _ => {}
         }
         match self.name(lot, element) {
             name if name.is_empty() && self.is(Fault::EmptyNameSpaceLost) => {
@@ -151,13 +166,13 @@ impl Wrong {
 
     fn lines_of_lot(&self, lot: &Lot) -> Vec<String> {
         let depth = if self.is(Fault::DepthTwo) { 2 } else { 3 };
-        let mut report = vec![0; lot.elements.len()];
+        let mut report = vec![0; lot.elements.len() / 8 * RECORD_WORDS];
         let answer = inspect(&Limits::base(), &lot.nodes, &lot.elements, depth, &mut report);
         let mut lines = Vec::new();
         if !self.is(Fault::LabelNotPrinted) {
             lines.push(self.label_line(lot));
         }
-        let records = (0..).zip(report.chunks_exact(8));
+        let records = (0..).zip(report.chunks_exact(RECORD_WORDS));
         lines.extend(records.map(|(element, record)| self.element_line(lot, element, record)));
         if !self.is(Fault::TallyNotPrinted) {
             lines.push(self.tally_line(&answer));
@@ -177,14 +192,34 @@ impl Wrong {
         }
     }
 
+    /// The number with which a lot of so many elements that reads without fault is
+    /// refused, or 0.
+    fn number(&self, elements: usize) -> u32 {
+        let most = match self.0 {
+            Some(Fault::RefusedAt900) => MOST_ELEMENTS - 1,
+            Some(Fault::TakenAt901) => MOST_ELEMENTS + 1,
+            Some(Fault::TakenTo1000) => 1000,
+            _ => MOST_ELEMENTS,
+        };
+        match self.0 {
+            Some(Fault::LackOfRoom) if elements > 850 => 27,
+            Some(Fault::RefusedWithOtherNumber) if elements > most => 20,
+            _ if elements > most => 26,
+            _ => 0,
+        }
+    }
+
     fn text(&self, file: &[u8]) -> String {
-        let lines = match read_lot(file, AMPLE) {
+        let read = read_lot(file, AMPLE).and_then(|reading| {
+            match self.number(reading.lot.elements.len() / 8) {
+                0 => Ok(reading.lot),
+                number => Err(number),
+            }
+        });
+        let lines = match read {
             _ if self.is(Fault::RefusesAll) => self.lines_of_refusal(21),
             Err(number) => self.lines_of_refusal(number),
-            Ok(reading) if self.is(Fault::LackOfRoom) && reading.lot.elements.len() > 7200 => {
-                self.lines_of_refusal(27)
-            }
-            Ok(reading) => self.lines_of_lot(&reading.lot),
+            Ok(lot) => self.lines_of_lot(&lot),
         };
         let end = match self.0 {
             Some(Fault::CarriageReturns) => "\r\n",

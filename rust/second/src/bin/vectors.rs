@@ -1,13 +1,14 @@
 //! Prints elements with their records and bounds, one a line:
 //!
-//! `x1 .. x24 | depth | 8 record words | low high`
+//! `x1 .. x24 | depth | 9 record words | low high`
 //!
 //! Use: `vectors SEED COUNT`.  The worked cases A to G come first, each at the
-//! depths 0 to 3, then COUNT random elements, their depth going round 0 to 3.
+//! depths 0 to 8, then COUNT random elements, their depth going round 0 to 8.
 
 #![deny(warnings)]
 
 use second::specimens::{worked, Points, Shaker};
+use second::Limits;
 use std::io::{self, BufWriter, Write};
 use std::process::ExitCode;
 
@@ -22,17 +23,18 @@ fn line(points: &Points, depth: u32) -> String {
     format!("{} | {depth} | {} | {low} {high}", joined(points), joined(&record))
 }
 
+const DEPTH: u32 = Limits::base().depth;
+
 fn print_all(seed: u64, count: u64) -> io::Result<()> {
     let mut out = BufWriter::new(io::stdout().lock());
     for (_, points) in worked() {
-        for depth in 0..=3 {
+        for depth in 0..=DEPTH {
             writeln!(out, "{}", line(&points, depth))?;
         }
     }
     let mut shaker = Shaker::new(seed);
-    for turn in 0..count {
-        let points = shaker.element();
-        writeln!(out, "{}", line(&points, (turn % 4) as u32))?;
+    for (_, depth) in (0..count).zip((0..=DEPTH).cycle()) {
+        writeln!(out, "{}", line(&shaker.element(), depth))?;
     }
     out.flush()
 }

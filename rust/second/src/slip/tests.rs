@@ -28,7 +28,7 @@ fn expect(lot: &Lot, lines: &[&str]) {
 /// "For case A labelled CUBE, whole".
 #[test]
 fn the_cube() {
-    let text = "lot CUBE\n1 CUBE 0 0 0 0 0 0 0 1\ntally 1 0 0 0\nstamp sound\n";
+    let text = "lot CUBE\n1 CUBE 0 0 0 0 0 0 0 0 1\ntally 1 0 0 0\nstamp sound\n";
     assert_eq!(slip(&lot(b"CUBE", &['A'], &[0]).file()), text.as_bytes());
     assert_eq!(slip(include_bytes!("../../../../examples/cube.lot")), text.as_bytes());
 }
@@ -37,10 +37,10 @@ fn the_cube() {
 #[test]
 fn the_grouped_lot() {
     let text = "lot SAMPLE 7\n\
-                1 SAMPLE 7 0 0 0 0 0 0 0 1\n\
-                2 twisted 1 1 0 0 1 5 0 2\n\
-                3 twisted 2 3 0 0 2 13 -262144 169\n\
-                4 SAMPLE 7 5 4 20 0 0 0 0 0\n\
+                1 SAMPLE 7 0 0 0 0 0 0 0 0 1\n\
+                2 twisted 1 1 0 0 1 5 0 0 2\n\
+                3 twisted 2 3 0 0 2 13 -262144 -1 169\n\
+                4 SAMPLE 7 5 4 20 0 0 0 0 0 0\n\
                 tally 1 1 1 1\n\
                 stamp faulty\n";
     let printed = slip(include_bytes!("../../../../examples/grouped.lot"));
@@ -58,18 +58,18 @@ fn every_kind_of_record() {
         .group(3, b"")
         .group(4, b"~")
         .group(6, b"after the last");
-    all.nodes[3 * 26 + 1] = 4097;
+    all.nodes[3 * 26 + 1] = 1_048_577;
     all.elements.extend([24, 25, 24, 27, 28, 29, 30, 31]);
     expect(
         &all,
         &[
             "lot all kinds",
-            "1 all kinds 0 1 0 0 0 0 0 9",
-            "2  two words  1 0 0 0 0 1 -8 1",
-            "3  two words  2 3 0 0 2 13 -262144 169",
-            "4 all kinds 5 8 32 0 0 0 0 0",
-            "5 ~ 6 3 2 0 0 0 0 0",
-            "6 ~ 7 1 3 0 0 0 0 0",
+            "1 all kinds 0 1 0 0 0 0 0 0 9",
+            "2  two words  1 0 0 0 0 1 -8 -1 1",
+            "3  two words  2 3 0 0 2 13 -262144 -1 169",
+            "4 all kinds 5 8 32 0 0 0 0 0 0",
+            "5 ~ 6 3 2 0 0 0 0 0 0",
+            "6 ~ 7 1 3 0 0 0 0 0 0",
             "tally 1 1 1 3",
             "stamp faulty",
         ],
@@ -81,10 +81,10 @@ fn every_kind_of_record() {
 fn an_empty_label() {
     let two = lot(b"", &['A'], &[0, 0]);
     let lines =
-        ["lot ", "1  0 0 0 0 0 0 0 1", "2  0 0 0 0 0 0 0 1", "tally 2 0 0 0", "stamp sound"];
+        ["lot ", "1  0 0 0 0 0 0 0 0 1", "2  0 0 0 0 0 0 0 0 1", "tally 2 0 0 0", "stamp sound"];
     expect(&two, &lines);
     expect(&two.clone().group(0, b""), &lines);
-    let named = [lines[0], lines[1], "2 x 0 0 0 0 0 0 0 1", lines[3], lines[4]];
+    let named = [lines[0], lines[1], "2 x 0 0 0 0 0 0 0 0 1", lines[3], lines[4]];
     expect(&two.group(1, b"x"), &named);
 }
 
@@ -92,10 +92,10 @@ fn an_empty_label() {
 /// refused, one refused among valid ones, one undecided or invalid beside a valid one.
 #[test]
 fn stamps() {
-    const A: &str = "0 0 0 0 0 0 0 1";
-    const C: &str = "1 0 0 0 0 1 -8 1";
-    const F: &str = "2 3 0 0 2 13 -262144 169";
-    const REFUSED: &str = "5 8 8 0 0 0 0 0";
+    const A: &str = "0 0 0 0 0 0 0 0 1";
+    const C: &str = "1 0 0 0 0 1 -8 -1 1";
+    const F: &str = "2 3 0 0 2 13 -262144 -1 169";
+    const REFUSED: &str = "5 8 8 0 0 0 0 0 0";
     let lots: [(&[char], &[u32], &[&str], &str, &str); 8] = [
         (&['A'], &[], &[], "tally 0 0 0 0", "stamp open"),
         (&['F'], &[0], &[F], "tally 0 0 1 0", "stamp open"),
@@ -133,16 +133,49 @@ fn refused_lots() {
     }
 }
 
+/// The largest cube with its rings exchanged, and the same a unit shorter in x: J times
+/// 8 is -2^66, and 2^45 more.
+#[test]
+fn values_past_64_bits() {
+    let mut large = lot(b"large", &['C', 'C'], &[0, 8]);
+    large.nodes.iter_mut().for_each(|x| *x = (2 * *x - 1) * 1_048_576);
+    large.nodes[24..].iter_mut().step_by(3).for_each(|x| *x = (*x).min(1_048_575));
+    expect(
+        &large,
+        &[
+            "lot large",
+            "1 large 1 0 0 0 0 1 0 -4 1",
+            "2 large 1 0 0 0 0 1 35184372088832 -4 1",
+            "tally 0 2 0 0",
+            "stamp faulty",
+        ],
+    );
+}
+
+/// 02, No. 8: "the slip answers 26 to a longer lot without fault."
+#[test]
+fn at_most_900_elements() {
+    for (elements, first) in [(899, "lot L\n"), (900, "lot L\n"), (901, "refused 26\n")] {
+        let printed = slip(&lot(b"L", &['A'], &vec![0; elements]).file());
+        assert!(printed.starts_with(first.as_bytes()));
+        assert_eq!(printed.len() == first.len(), elements > 900);
+    }
+    assert_eq!(slip(&lot(b"L", &['A'], &[0; 1000]).file()), b"refused 26\n");
+    // a fault of the file goes before
+    let cut_short = lot(b"L", &['A'], &[0; 1000]).file();
+    assert_eq!(slip(&cut_short[..cut_short.len() - 1]), b"refused 21\n");
+}
+
 /// "The program never lacks room": the longest slips are far below 262,144 bytes.
 #[test]
 fn a_full_lot() {
     let name = [b'~'; 32];
-    let mut full = lot(&name, &['F'], &[u32::MAX - 8; 1000]).group(0, &name).group(1000, b"");
-    full.nodes.resize(3 * 1841, 0);
+    let mut full = lot(&name, &['F'], &[u32::MAX - 8; 900]).group(0, &name).group(900, b"");
+    full.nodes.resize(3 * 2066, 0);
     let file = full.file();
     assert_eq!(file.len(), 65_536);
     let printed = slip(&file);
-    assert!(printed.ends_with(b"\ntally 0 0 0 1000\nstamp faulty\n"));
-    let longest = "1000 ~~~~~~~~~~~~~~~~~~~~~~~~~~~~~~~~ 5 1 4294967287 0 0 0 0 0\n";
-    assert!(printed.len() < 1010 * longest.len());
+    assert!(printed.ends_with(b"\ntally 0 0 0 900\nstamp faulty\n"));
+    let longest = "900 ~~~~~~~~~~~~~~~~~~~~~~~~~~~~~~~~ 5 1 4294967287 0 0 0 0 0 0\n";
+    assert!(printed.len() < 910 * longest.len());
 }
