@@ -6,7 +6,7 @@ use lib.Dec.{eqb}
 use lib.ListN.{getD, drop}
 use lib.IntN.{ℤ, pos, negsuc}
 use Rattle.definitions.specs.TwoWords.{twoWords, fromTwoWords}
-use Rattle.definitions.specs.Verdict.{Finding, Verdict, valid, invalid, undecided, verdict, opened}
+use Rattle.definitions.specs.Verdict.{Verdict, valid, invalid, undecided, verdict, opened}
 
 -- a record: six words, those of a value, and the number of cubes opened. 02, No. 8: "Word 6 becomes two words, low 64 bits and then high, as two's complement; the opened
 -- count moves to word 8"

@@ -1,4 +1,5 @@
 pub mod Meaning
+pub mod Points
 pub mod Lowest
 pub mod Children
 pub mod Visit

@@ -1,52 +1,36 @@
 -- Eight points within the limits: two words hold their coefficients at every level within the limits, so the search in two words may be used;
 -- and how large each number of a record gets.
-use mathlib.Core.Path.{_≡_, refl, sym, _∙_, ap, subst}
+use mathlib.Core.Path.{_≡_, refl}
 use mathlib.Core.List.{List, [], _∷_}
 use Prim.Native.Nat.{ℕ, _*_, _^_, _≤_, _<_}
 use native.Mathlib.Nat.{le-trans, mul-le-mul-left, pow-le-pow-right, zero-lt-suc, lt-of-le-of-lt}
 use lib.Dec.{lit<, lit≤}
-use lib.ListN.{length}
 use lib.IntN.{ℤ, pos, natAbs}
 use mir.Syntax.{w128}
 use mir.Val.{SFits}
 use Rattle.foundation.specs.Lists.{All, all-map}
-use Rattle.foundation.specs.Words.{Within}
 use Rattle.definitions.specs.Limits.{base}
 use Rattle.definitions.specs.Coefficients.{coefficients}
-use Rattle.definitions.specs.Subdivision.{whole, cells}
+use Rattle.definitions.specs.Subdivision.{cells}
 use Rattle.definitions.specs.Record.{valueHeld, verdictWords, recordOf}
 use Rattle.definitions.specs.Verdict.{Verdict, valid, invalid, undecided, verdict, opened}
-use Rattle.expansion_theory.specs.Expansion.{length-coefficients}
-use Rattle.expansion_theory.specs.Size.{whole-size, coefficient-finer}
+use Rattle.expansion_theory.specs.Size.{coefficient-finer}
 use Rattle.verdict_theory.specs.Opened.{most, opened-most}
 use Rattle.verdict_theory.specs.Named.{Names, OnGrid, named-on-grid}
 use Rattle.search_theory.specs.Meaning.{Small}
+use Rattle.search_theory.specs.Points.{points-small as small-within}
 use Rattle.wrapping_theory.specs.Runs.{size-fits}
 use Rattle.wrapping_theory.specs.Words.{words-back}
 use Rattle.search_theory.specs.Levels.{named-small, most-less}
 use Rattle.element_vectors.specs.Range.{InRange}
 use Rattle.wide_rows.specs.Word.{largest}
 
--- what the magnitude of a coefficient of the whole is at most, and one of the deepest level
-abbrev size : ℕ
-size = 384 * base .range ^ 3
-
+-- 02, No. 8: "The largest held coefficient is below 384·2^108."
 abbrev pub heldMost : ℕ
 heldMost = 384 * 2 ^ 108
 
-within : (xs : List ℤ) → InRange (base .range) xs → Within size (coefficients xs)
-unfolding whole
-within xs h = whole-size xs (base .range) (h .small)
-
-deep : (n : ℕ) → n ≤ base .depth → size * 64 ^ n ≤ heldMost
-deep n l = mul-le-mul-left size (pow-le-pow-right (zero-lt-suc 63) l)
-
 pub points-small : (xs g : List ℤ) (depth : ℕ) → InRange (base .range) xs → depth ≤ base .depth → g ≡ coefficients xs → Small largest g depth
-points-small xs g depth h l e = record {
-  bound = size;
-  control = record { sized = ap length e ∙ length-coefficients xs; within = subst (Within size) (sym e) (within xs h) };
-  small = le-trans (deep depth l) (lit≤ tt);
-}
+points-small xs g depth h = small-within largest (base .range) (base .depth) (lit≤ tt) xs g depth (h .small)
 
 -- ---- how large the numbers get, for points within the limits at a level or depth within them
 module _ (xs : List ℤ) where

@@ -1,24 +1,20 @@
 -- Numbers of one word as numbers of two: the sign fills the high word; and which numbers of two words one word holds.
 use mathlib.Core.Path.{_≡_, refl, sym, _∙_, ap}
 use mathlib.Core.Bool.{Bool, true, false, _&&_}
-use mathlib.Core.List.{[], _∷_}
-use Prim.Native.Nat.{ℕ, zero, suc, _+_, _*_, _-_, _%_, _^_, _<_, _≤_}
-use native.Mathlib.Nat.{le-trans, le-add-right, mul-le-mul-right, le-of-lt, mul-le-mul, le-of-eq, mod-lt}
+use Prim.Native.Nat.{ℕ, zero, suc, _+_, _*_, _-_, _^_, _<_, _≤_}
+use native.Mathlib.Nat.{le-trans, le-add-right, mul-le-mul-right, le-of-lt, mul-le-mul, le-of-eq}
 use native.Mathlib.Omega.{arith}
 use borrow.Author.Tests.{le-leb, lt-leb}
 use lib.Arith.{digits-lt, lt-of-le-ne}
-use lib.Dec.{lit<, lit≤}
-use lib.IntN.{ℤ, pos, negsuc, natAbs, _+ℤ_, _*ℤ_}
+use lib.Dec.{lit≤}
+use lib.IntN.{ℤ, pos, negsuc, natAbs, _*ℤ_}
 use lib.Signed.{mag}
 use mir.Syntax.{w64, w128}
-use mir.Val.{Fits, SFits, toZ}
-use mir.ValLaws.{toZ-pos, toZ-neg, toZ-fits}
+use mir.Val.{SFits, toZ}
+use mir.ValLaws.{toZ-pos, toZ-neg}
 use Rattle.foundation.specs.Magnitude.{magnitude-mul}
-use Rattle.foundation.specs.Polynomial.{var, add, mul, solve}
-use Rattle.foundation.specs.Words.{args, signedLimit}
-use Rattle.definitions.specs.TwoWords.{wordBase, value, remainder, lowWord, inOneWord}
-use Rattle.wrapping_theory.specs.Congruence.{Congruent, chained, divided, left-over}
-use Rattle.wrapping_theory.specs.Wrapping.{bits-congruent, one-alone}
+use Rattle.foundation.specs.Words.{signedLimit}
+use Rattle.definitions.specs.TwoWords.{wordBase, value, inOneWord}
 use Rattle.wrapping_theory.specs.Runs.{size-fits}
 use Rattle.wrapping_theory.specs.Words.{together, AreWords, Sign, plus, minus, sign, value-above, value-below}
 
