@@ -47,7 +47,7 @@ extern "C" {
 uint32_t brundhal_version(void);
 
 /* Limits: a usable coordinate is from -1,048,576 to 1,048,576; depths are 0 to 8. A
- * slip is printed of 900 elements at most. */
+ * program that holds a report keeps to 900 elements, and so does the slip. */
 #define BRUNDHAL_MAX_COORDINATE 1048576
 #define BRUNDHAL_MAX_DEPTH 8
 #define BRUNDHAL_MAX_NODES 5000
@@ -122,7 +122,9 @@ typedef struct {
  * 5 is an index not below the node count, 7 an index in two places of the element
  * (words 1 and 2, the lower place and the higher), 6 a coordinate outside the
  * range, tested in this order; each concerns that element's record alone. opened is
- * the number of cubes opened, at most 19,173,961 (at depth 8). */
+ * the number of cubes opened, at most 19,173,961 (at depth 8). The time goes with it:
+ * nearly every element takes less than a microsecond, one that is still undecided at
+ * depth 8 milliseconds. */
 BrundhalInspection brundhal_inspect(const int32_t *coordinates, size_t coordinates_len,
                                     const uint32_t *indices, size_t indices_len,
                                     uint32_t depth,

@@ -9,14 +9,15 @@
 
 #define LENGTH(array) (sizeof(array) / sizeof((array)[0]))
 
-/* One byte more than the longest lot file, so that a longer one shows; and space
- * in which every lot fits. */
+/* One byte more than the longest lot file, so that a longer one shows; space in
+ * which every lot fits; and a report of 900 elements, which a program that holds one
+ * keeps to. */
 static uint8_t file[BRUNDHAL_LOT_BYTES + 1];
 static int32_t nodes[BRUNDHAL_LOT_NODE_WORDS];
 static uint32_t elements[BRUNDHAL_LOT_ELEMENT_WORDS];
 static uint8_t names[BRUNDHAL_LOT_NAME_BYTES];
 static uint32_t lengths[BRUNDHAL_LOT_GROUPS], offsets[BRUNDHAL_LOT_GROUPS];
-static int64_t report[BRUNDHAL_RECORD_WORDS * BRUNDHAL_MAX_ELEMENTS];
+static int64_t report[BRUNDHAL_RECORD_WORDS * BRUNDHAL_SLIP_ELEMENTS];
 static uint8_t written[BRUNDHAL_LOT_BYTES];
 
 /* Whether the file could be read, and its length. */
@@ -85,6 +86,10 @@ int main(int argc, char **argv)
                                         lengths, LENGTH(lengths), offsets, LENGTH(offsets));
     if (lot.number != 0) {
         fprintf(stderr, "lot refused %" PRIu32 "\n", lot.number);
+        return 1;
+    }
+    if (lot.elements > BRUNDHAL_SLIP_ELEMENTS) {
+        fprintf(stderr, "lot refused %d\n", BRUNDHAL_REFUSED_TOO_MANY);
         return 1;
     }
     printf("label %.*s\n", (int)lot.len, (const char *)file + lot.start);

@@ -1,4 +1,4 @@
--- The limits that later requests raise. Everything else takes them as parameters.
+-- The limits, which everything else takes as parameters; the length of a record; the version.
 use Prim.Native.Nat.{ℕ}
 
 pub record Limits : Type 0 where

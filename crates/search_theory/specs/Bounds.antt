@@ -10,7 +10,7 @@ use lib.Dec.{le→leb}
 use lib.IntN.{ℤ, pos, negsuc, natAbs}
 use lib.Signed.{_≤ℤ_, leZ-yes}
 use Rattle.foundation.specs.Lists.{All, all-map, all-both, all-image, all-concat, all-getD, concatMap, tabulate}
-use Rattle.foundation.specs.Least.{lesser, leastFrom}
+use Rattle.foundation.specs.Least.{lesser, leastFrom, least-all}
 use Rattle.definitions.specs.Jacobian.{side}
 use Rattle.definitions.specs.Subdivision.{Cell, child, children, whole, cells}
 use Rattle.definitions.specs.Verdict.{Finding, cornersOf, coefficientsOf}
@@ -21,6 +21,7 @@ use Rattle.expansion_theory.specs.Size.{cells-size}
 use Rattle.verdict_theory.specs.Positive.{findings-of, corners-of}
 use Rattle.verdict_theory.specs.Search.{cornerValues}
 use Rattle.verdict_theory.specs.Clear.{childControl, child-control}
+use Rattle.verdict_theory.specs.Bounds.{shown-some, high-corners, coefficients-some, corners-some}
 use Rattle.verdict_theory.specs.Extremes.{Extremes, withAll, extremes, extremes-bounds}
 use Rattle.search_theory.specs.Meaning.{Small}
 use Rattle.search_theory.specs.Levels.{wholeOf, whole-is}
@@ -83,38 +84,43 @@ below-magnitude : (z : ℤ) (b : ℕ) → natAbs z ≤ b → z ≤ℤ pos b
 below-magnitude (pos n) b h = leZ-yes (le→leb n b h)
 below-magnitude (negsuc n) b h = leZ-yes tt
 
--- a search of coefficients that stay within `top` starts from `top` itself: none passes it
-module _ (top : ℕ) (xs : List ℤ) (D : ℕ) (small : Small top (coefficients xs) D) where
-  abbrev greatest : ℤ
-  greatest = pos top
-
+-- what holds of every number up to `top` holds of coefficients that stay within it, of the corners and of both bounds
+module _ (top : ℕ) (P : ℤ → Type 0) (holds : (v : ℤ) → natAbs v ≤ top → P v) (xs : List ℤ) (D : ℕ) (small : Small top (coefficients xs) D) where
   whole-within : All (λ v. natAbs v ≤ small .bound) (whole xs .control)
   unfolding whole
   whole-within = small .control .within
 
   abbrev Under : Cell → Type 0
-  Under s = All (λ v. v ≤ℤ greatest) (s .control) × CellOf xs D s
+  Under s = All P (s .control) × CellOf xs D s
 
   cells-under : All Under (cells xs D)
-  cells-under = all-both (λ s. All (λ v. v ≤ℤ greatest) (s .control)) (CellOf xs D) (cells xs D)
-      (all-map (λ s. All (λ v. natAbs v ≤ small .bound * 64 ^ D) (s .control)) (λ s. All (λ v. v ≤ℤ greatest) (s .control))
-      (λ s p. all-map (λ v. natAbs v ≤ small .bound * 64 ^ D) (λ v. v ≤ℤ greatest) (λ v q. below-magnitude v top (le-trans q (small .small))) (s .control) p) (cells xs D) (cells-size xs (small .bound) whole-within D))
+  cells-under = all-both (λ s. All P (s .control)) (CellOf xs D) (cells xs D)
+      (all-map (λ s. All (λ v. natAbs v ≤ small .bound * 64 ^ D) (s .control)) (λ s. All P (s .control))
+      (λ s p. all-map (λ v. natAbs v ≤ small .bound * 64 ^ D) P (λ v q. holds v (le-trans q (small .small))) (s .control) p) (cells xs D) (cells-size xs (small .bound) whole-within D))
       (all-cells xs D)
 
-  one-under : (s : Cell) → Under s → (n : ℕ) → n < 27 → getD (s .control) n (pos 0) ≤ℤ greatest
-  one-under s p n l = all-getD (λ v. v ≤ℤ greatest) (s .control) (pos 0) n (omega (arith, p .1 .sized)) (p .0)
+  one-under : (s : Cell) → Under s → (n : ℕ) → n < 27 → P (getD (s .control) n (pos 0))
+  one-under s p n l = all-getD P (s .control) (pos 0) n (omega (arith, p .1 .sized)) (p .0)
 
-  coefficients-under : All (λ v. v ≤ℤ greatest) (map (λ f. f .value) (concatMap coefficientsOf (cells xs D)))
-  coefficients-under = all-image (λ v. v ≤ℤ greatest) (λ f. f .value) (concatMap coefficientsOf (cells xs D)) (all-concat (λ f. (f .value) ≤ℤ greatest) coefficientsOf (cells xs D)
-      (all-map Under (λ s. All (λ f. (f .value) ≤ℤ greatest) (coefficientsOf s)) (λ s p. findings-of (λ v. v ≤ℤ greatest) s (one-under s p)) (cells xs D) cells-under))
+  coefficients-under : All P (map (λ f. f .value) (concatMap coefficientsOf (cells xs D)))
+  coefficients-under = all-image P (λ f. f .value) (concatMap coefficientsOf (cells xs D)) (all-concat (λ f. P (f .value)) coefficientsOf (cells xs D)
+      (all-map Under (λ s. All (λ f. P (f .value)) (coefficientsOf s)) (λ s p. findings-of P s (one-under s p)) (cells xs D) cells-under))
 
-  corners-under : All (λ v. v ≤ℤ greatest) (map (λ f. f .value) (concatMap (cornersOf xs D) (cells xs D)))
-  corners-under = all-image (λ v. v ≤ℤ greatest) (λ f. f .value) (concatMap (cornersOf xs D) (cells xs D)) (all-concat (λ f. (f .value) ≤ℤ greatest) (cornersOf xs D) (cells xs D)
-      (all-map Under (λ s. All (λ f. (f .value) ≤ℤ greatest) (cornersOf xs D s))
-      (λ s p. corners-of xs (λ f. (f .value) ≤ℤ greatest) D s (λ n l. subst (λ v. v ≤ℤ greatest) (corner-is xs D s (p .1) n l) (one-under s p n (omega arith)))) (cells xs D) cells-under))
+  corners-under : All P (map (λ f. f .value) (concatMap (cornersOf xs D) (cells xs D)))
+  corners-under = all-image P (λ f. f .value) (concatMap (cornersOf xs D) (cells xs D)) (all-concat (λ f. P (f .value)) (cornersOf xs D) (cells xs D)
+      (all-map Under (λ s. All (λ f. P (f .value)) (cornersOf xs D s))
+      (λ s p. corners-of xs (λ f. P (f .value)) D s (λ n l. subst P (corner-is xs D s (p .1) n l) (one-under s p n (omega arith)))) (cells xs D) cells-under))
 
-  bounds-here : (g : List ℤ) → g ≡ coefficients xs → extremes D (wholeOf g) (record { low = greatest; high = greatest }) ≡ boundsAt xs D
-  bounds-here g e = ap (λ (s : Cell). extremes D s (record { low = greatest; high = greatest })) (whole-is xs g e) ∙ extremes-bounds xs D greatest coefficients-under corners-under
+  pub low-holds : P (low xs D)
+  unfolding low
+  low-holds = least-all P (map (λ f. f .value) (concatMap coefficientsOf (cells xs D))) (shown-some xs coefficientsOf coefficients-some D) coefficients-under
 
+  pub high-holds : P (high xs D)
+  high-holds = subst P (sym (high-corners xs D)) (least-all P (map (λ f. f .value) (concatMap (cornersOf xs D) (cells xs D))) (shown-some xs (cornersOf xs D) (corners-some xs D) D) corners-under)
+
+-- a search of coefficients that stay within `top` starts from `top` itself: none passes it
 pub bounds-are : (top : ℕ) (xs g : List ℤ) (D : ℕ) → g ≡ coefficients xs → Small top g D → extremes D (wholeOf g) (record { low = pos top; high = pos top }) ≡ boundsAt xs D
-bounds-are top xs g D e small = bounds-here top xs D (subst (λ (c : List ℤ). Small top c D) e small) g e
+bounds-are top xs g D e small =
+    let fits = subst (λ (c : List ℤ). Small top c D) e small in
+    ap (λ (s : Cell). extremes D s (record { low = pos top; high = pos top })) (whole-is xs g e)
+    ∙ extremes-bounds xs D (pos top) (coefficients-under top (λ v. v ≤ℤ pos top) (λ v q. below-magnitude v top q) xs D fits) (corners-under top (λ v. v ≤ℤ pos top) (λ v q. below-magnitude v top q) xs D fits)

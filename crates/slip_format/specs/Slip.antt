@@ -48,7 +48,7 @@ stampWord sound = 115 ∷ 111 ∷ 117 ∷ 110 ∷ 100 ∷ []
 stampWord faulty = 102 ∷ 97 ∷ 117 ∷ 108 ∷ 116 ∷ 121 ∷ []
 stampWord «open» = 111 ∷ 112 ∷ 101 ∷ 110 ∷ []
 
--- "Elements count from 1; an empty name prints as nothing, its spaces kept."
+-- "Elements count from 1; an empty name prints as nothing, its spaces kept." No. 8: "the slip prints all nine, each as a signed number"
 abbrev pub elementLine : List ℕ → List Group → ℕ → List ℤ → List ℕ
 elementLine label gs e words = line (decimal (suc e)) (nameOf label gs e ∷ map signedDecimal words)
 

@@ -10,18 +10,21 @@ use mir.Syntax.{w128}
 use mir.Val.{SFits}
 use Rattle.foundation.specs.Lists.{All, all-map}
 use Rattle.definitions.specs.Limits.{base}
+use Rattle.definitions.specs.TwoWords.{value, lowWord, highWord}
 use Rattle.definitions.specs.Coefficients.{coefficients}
 use Rattle.definitions.specs.Subdivision.{cells}
+use Rattle.definitions.specs.Bounds.{low, high}
 use Rattle.definitions.specs.Record.{valueHeld, verdictWords, recordOf}
 use Rattle.definitions.specs.Verdict.{Verdict, valid, invalid, undecided, verdict, opened}
+use Rattle.wrapping_theory.specs.Runs.{size-fits}
+use Rattle.wrapping_theory.specs.Words.{words-back, value-of-words-exact}
 use Rattle.expansion_theory.specs.Size.{coefficient-finer}
 use Rattle.verdict_theory.specs.Opened.{most, opened-most}
 use Rattle.verdict_theory.specs.Named.{Names, OnGrid, named-on-grid}
 use Rattle.search_theory.specs.Meaning.{Small}
 use Rattle.search_theory.specs.Points.{points-small as small-within}
-use Rattle.wrapping_theory.specs.Runs.{size-fits}
-use Rattle.wrapping_theory.specs.Words.{words-back}
 use Rattle.search_theory.specs.Levels.{named-small, most-less}
+use Rattle.search_theory.specs.Bounds.{low-holds, high-holds}
 use Rattle.element_vectors.specs.Range.{InRange}
 use Rattle.wide_rows.specs.Word.{largest}
 
@@ -58,12 +61,27 @@ module _ (xs : List ℤ) where
       go (invalid m f) h = (le-trans (h .0) most, le-trans (h .1) most, le-trans (h .2) most)
       go (undecided m f) h = (le-trans (h .0) most, le-trans (h .1) most, le-trans (h .2) most)
 
-  -- words 6 and 7 of a record, read back, are the value that the verdict names: no other number has them
-  pub value-read : InRange (base .range) xs → (D : ℕ) → D ≤ base .depth → Names (λ f. valueHeld (recordOf xs D) ≡ f .value) (verdict xs D)
-  unfolding recordOf
-  value-read h D l = go (verdict xs D) (named-small largest xs (coefficients xs) D refl (points-small xs (coefficients xs) D h l refl) (SFits w128) (λ v q. size-fits w128 largest v q tt))
-    where
-      go : (v : Verdict) → Names (λ f. SFits w128 (f .value)) v → Names (λ f. valueHeld (verdictWords v (opened xs D)) ≡ f .value) v
-      go (valid m) q = tt
-      go (invalid m f) q = words-back (f .value) (pos (opened xs D) ∷ []) q
-      go (undecided m f) q = words-back (f .value) (pos (opened xs D) ∷ []) q
+  -- ---- two words hold what is given, so what is read back is the number itself, and no other number has these words
+  module _ (h : InRange (base .range) xs) (D : ℕ) (l : D ≤ base .depth) where
+    held : Small largest (coefficients xs) D
+    held = points-small xs (coefficients xs) D h l refl
+
+    fits : (v : ℤ) → natAbs v ≤ largest → SFits w128 v
+    fits v q = size-fits w128 largest v q tt
+
+    -- words 6 and 7 of a record: the value that the verdict names
+    pub record-value-read : Names (λ f. valueHeld (recordOf xs D) ≡ f .value) (verdict xs D)
+    unfolding recordOf
+    record-value-read = go (verdict xs D) (named-small largest xs (coefficients xs) D refl held (SFits w128) fits)
+      where
+        go : (v : Verdict) → Names (λ f. SFits w128 (f .value)) v → Names (λ f. valueHeld (verdictWords v (opened xs D)) ≡ f .value) v
+        go (valid m) q = tt
+        go (invalid m f) q = words-back (f .value) (pos (opened xs D) ∷ []) q
+        go (undecided m f) q = words-back (f .value) (pos (opened xs D) ∷ []) q
+
+    -- the two words of each bound
+    pub low-read : value (lowWord (low xs D)) (highWord (low xs D)) ≡ low xs D
+    low-read = value-of-words-exact (low xs D) (low-holds largest (SFits w128) fits xs D held)
+
+    pub high-read : value (lowWord (high xs D)) (highWord (high xs D)) ≡ high xs D
+    high-read = value-of-words-exact (high xs D) (high-holds largest (SFits w128) fits xs D held)

@@ -15,12 +15,12 @@ use Rattle.wide_array.specs.Values.{lowAt, highAt, putNumber, values, values-le
 use Rattle.wide_rows.specs.Word.{largest, cutLargest, can-be-cut}
 
 -- 54 words that hold the first j rows of the half of the numbers of c on side h in direction d
-pub record Held (d h j : ℕ) (c ws : List ℕ) : Type 0 where
+pub record RowsHeld (d h j : ℕ) (c ws : List ℕ) : Type 0 where
   pub sized : length ws ≡ 54
   pub rows : Holds cutLargest d h j (values c) (values ws)
 
 -- before the first row
-pub none-held-yet : (d h : ℕ) {c ws : List ℕ} → Cuttable largest (values c) → length ws ≡ 54 → Held d h 0 c ws
+pub none-held-yet : (d h : ℕ) {c ws : List ℕ} → Cuttable largest (values c) → length ws ≡ 54 → RowsHeld d h 0 c ws
 none-held-yet d h {c} {ws} k l = record { sized = l; rows = none-held d h (cut-within largest cutLargest (values c) can-be-cut k) (values-length ws) }
 
 -- ---- one row more
@@ -29,15 +29,15 @@ pub read-row : (c : List ℕ) (x y z : ℕ) → x < 27 → y < 27 → z < 27 →
     → (value a b ∷ value a′ b′ ∷ value a″ b″ ∷ []) ≡ lineAt (values c) x y z
 read-row c x y z hx hy hz p q r = λ i. value-read c x hx p i ∷ value-read c y hy q i ∷ value-read c z hz r i ∷ []
 
-pub row-within : {d h j : ℕ} {c ws : List ℕ} → Held d h j c ws → (x y z : ℕ) → Within cutLargest (lineAt (values c) x y z)
+pub row-within : {d h j : ℕ} {c ws : List ℕ} → RowsHeld d h j c ws → (x y z : ℕ) → Within cutLargest (lineAt (values c) x y z)
 row-within {c = c} k x y z = let each = within cutLargest (values c) (k .rows .control .within) in (each x, (each y, (each z, tt)))
 
 -- the half's three numbers put: each by its value
-module _ {d h j x y z : ℕ} {c ws : List ℕ} (row : Row d j x y z) (k : Held d h j c ws) where
+module _ {d h j x y z : ℕ} {c ws : List ℕ} (row : Row d j x y z) (k : RowsHeld d h j c ws) where
   abbrev entry : ℕ → ℤ
   entry t = cutRow integers h (args (lineAt (values c) x y z)) t
 
-  pub row-put : (a b a′ b′ a″ b″ : ℕ) → value a b ≡ entry 0 → value a′ b′ ≡ entry 1 → value a″ b″ ≡ entry 2 → {vs : List ℕ} → vs ≡ putNumber a″ b″ z (putNumber a′ b′ y (putNumber a b x ws)) → Held d h (j + 1) c vs
+  pub row-put : (a b a′ b′ a″ b″ : ℕ) → value a b ≡ entry 0 → value a′ b′ ≡ entry 1 → value a″ b″ ≡ entry 2 → {vs : List ℕ} → vs ≡ putNumber a″ b″ z (putNumber a′ b′ y (putNumber a b x ws)) → RowsHeld d h (j + 1) c vs
   unfolding putRow
   row-put a b a′ b′ a″ b″ p q r e = record { sized = ap length e ∙ third; rows = row-held row (k .rows) (ap values e ∙ put) }
     where

@@ -10,7 +10,7 @@ ghost use Rattle.expansion_theory.specs.Rows.{Row};
 ghost use Rattle.wide_number.specs.Meaning.{valueOf};
 ghost use Rattle.wide_array.specs.Values.{putNumber};
 ghost use Rattle.wide_rows.specs.Word.{cutLargest};
-ghost use Rattle.wide_rows.specs.Rows.{Held};
+ghost use Rattle.wide_rows.specs.Rows.{RowsHeld};
 use wide_number::Wide;
 
 // The lower half of the row p, q, r, four times larger: its three entries. The upper half is that of r, q, p, from its end to its start.
@@ -59,8 +59,8 @@ pub fn lower_row(
     out: &mut [u64; 54],
 )
     requires { ⌜ Row d j x y z ⌝ }
-    requires { ⌜ Held d 0 j (now c) (now out) ⌝ }
-    ensures { λ _. ⌜ Held d 0 (j + 1) (now (c .entry)) (now (out .exit)) ⌝ }
+    requires { ⌜ RowsHeld d 0 j (now c) (now out) ⌝ }
+    ensures { λ _. ⌜ RowsHeld d 0 (j + 1) (now (c .entry)) (now (out .exit)) ⌝ }
 {
     let p = wide_array::at(c, x);
     let q = wide_array::at(c, y);
@@ -79,8 +79,8 @@ pub fn upper_row(
     out: &mut [u64; 54],
 )
     requires { ⌜ Row d j x y z ⌝ }
-    requires { ⌜ Held d 1 j (now c) (now out) ⌝ }
-    ensures { λ _. ⌜ Held d 1 (j + 1) (now (c .entry)) (now (out .exit)) ⌝ }
+    requires { ⌜ RowsHeld d 1 j (now c) (now out) ⌝ }
+    ensures { λ _. ⌜ RowsHeld d 1 (j + 1) (now (c .entry)) (now (out .exit)) ⌝ }
 {
     let p = wide_array::at(c, x);
     let q = wide_array::at(c, y);

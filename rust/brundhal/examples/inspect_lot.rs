@@ -43,6 +43,10 @@ fn inspect(file: &[u8]) -> Result<(), String> {
     if lot.number != 0 {
         return Err(format!("lot refused {}", lot.number));
     }
+    // A program that holds a report keeps to 900 elements.
+    if lot.elements as usize > brundhal::SLIP_ELEMENTS {
+        return Err(format!("lot refused {}", brundhal::refusal::TOO_MANY));
+    }
     println!("label {}", lot.label.escape_ascii());
     println!("nodes {} elements {} groups {}", lot.nodes, lot.elements, lot.groups);
 

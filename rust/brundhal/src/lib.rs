@@ -72,7 +72,7 @@ pub mod refusal {
     pub const REPORT: u32 = 4;
     /// An index names no node.
     pub const INDEX: u32 = 5;
-    /// A coordinate is past `MAX_COORDINATE`.
+    /// A coordinate is past `MAX_COORDINATE`, on either side of 0.
     pub const COORDINATE: u32 = 6;
     /// An index stands in two places.
     pub const TWICE: u32 = 7;
@@ -353,6 +353,11 @@ mod raw {
         pub fn brundhal_number_at_most(x: Number, y: Number) -> u32;
     }
 }
+
+/// A library before version 2, whose layouts are others, does not have the function:
+/// so no program links with it.
+#[used]
+static LINKED: unsafe extern "C" fn() -> u32 = raw::brundhal_version;
 
 /// The version of the library that is linked; all else here is right only where it is
 /// `VERSION`.

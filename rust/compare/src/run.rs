@@ -181,6 +181,18 @@ fn paper_figures(pair: Pair) -> Result<String, Difference> {
     Ok(lines)
 }
 
+/// The number that answers the bounds service.
+fn of_the_bounds(number: i64) -> String {
+    format!("number {number} of the bounds")
+}
+
+/// What has to be among what was met.
+fn are_met(tally: &Tally, needed: impl IntoIterator<Item = String>) {
+    for what in needed {
+        assert!(tally.contains_key(&what), "no {what} was met");
+    }
+}
+
 /// "Lengths no multiple, one too many", depths past the largest: all of them
 /// against each other, so that the order of 1 to 4 shows.
 fn refusals(pair: Pair) -> Result<String, Difference> {
@@ -211,6 +223,7 @@ fn refusals(pair: Pair) -> Result<String, Difference> {
         count(tally, numbered(words[0]));
         Ok(())
     })?;
+    are_met(&tally, (0..=4).map(numbered));
     let said = in_words(&tally);
     Ok(format!("{} meshes, those of number 0 {OVER_DEPTHS}, {said}", questions.len()))
 }
@@ -248,11 +261,12 @@ fn coordinates_at_the_ends(pair: Pair) -> Result<String, Difference> {
             }
             for depth in [0, 3, 9] {
                 let bounds = pair.ask(&Question::Bounds { depth, points })?;
-                count(tally, format!("number {} of the bounds", bounds[0]));
+                count(tally, of_the_bounds(bounds[0]));
             }
         }
         Ok(())
     })?;
+    are_met(&tally, [0, 1, 6].map(of_the_bounds).into_iter().chain([verdict(&[6])]));
     Ok(in_words(&tally))
 }
 
@@ -284,9 +298,7 @@ fn shared_nodes(pair: Pair) -> Result<String, Difference> {
         Ok(())
     })?;
     assert_eq!(ways.len(), 4140, "as many as a set of eight has partitions");
-    for number in [5, 6, 7] {
-        assert!(tally.contains_key(&verdict(&[number])), "no element was refused with {number}");
-    }
+    are_met(&tally, [5, 6, 7].map(|number| verdict(&[number])));
     let said = in_words(&tally);
     Ok(format!("{} ways over {} runs of nodes, {OVER_DEPTHS}, {said}", ways.len(), nodes.len()))
 }
@@ -302,7 +314,7 @@ fn meshes(pair: Pair, plan: Plan) -> Result<String, Difference> {
             *tally.entry(format!("{name} records")).or_insert(0) += words[1 + kind] as u64;
         }
         let bounds = pair.ask(&draw::bounds(&mut shaker))?;
-        count(tally, format!("number {} of the bounds", bounds[0]));
+        count(tally, of_the_bounds(bounds[0]));
         Ok(())
     })?;
     let said = in_words(&tally);

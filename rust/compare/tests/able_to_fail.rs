@@ -118,7 +118,7 @@ fn questions_read_back() {
         },
         Question::Element { depth: 2, bounds: 1, points: [-7; 24] },
         Question::Element { depth: 8, bounds: 4, points: [-1_048_576; 24] },
-        Question::Bounds { depth: 9, points: [4097; 24] },
+        Question::Bounds { depth: 9, points: [1_048_577; 24] },
         Question::Bounds { depth: 4, points: [1_048_577; 24] },
         Question::Child { address: [1, 0, 1, 0], n: 8 },
         Question::Corner { address: [u32::MAX; 4], n: 0 },

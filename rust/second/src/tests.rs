@@ -556,7 +556,7 @@ fn order_within_an_element() {
 /// A refusal by 7 of the element with these indices, at every depth.
 #[track_caller]
 fn expect_pair(points: &Points, indices: [u32; 8], lower: i64, higher: i64) {
-    for depth in 0..=3 {
+    for depth in 0..=8 {
         let (answer, words) = inspect_one(points, indices, depth);
         assert_eq!(words, [7, lower, higher, 0, 0, 0, 0, 0, 0]);
         assert_eq!(answer, counts(0, 0, 0, 1), "it counts among the refused");

@@ -2,12 +2,12 @@
 use Prim.Native.Nat.{ℕ}
 use native.Mathlib.Omega.{arith}
 use Rattle.expansion_theory.specs.RowLaws.{lower-held, upper-held}
-use Rattle.wide_rows.specs.Rows.{Held, none-held-yet}
+use Rattle.wide_rows.specs.Rows.{RowsHeld, none-held-yet}
 use Rattle.wide_subdivision.proofs.halve.Statement.{statement}
 use Rattle.wide_subdivision.proofs.halve.Tie as tie
 
 module _ (s : tie.Start) (d h : ℕ) where
-  ready : Held d h 0 (s .args .c .now) (s .args .out .now)
+  ready : RowsHeld d h 0 (s .args .c .now) (s .args .out .now)
   ready = none-held-yet d h (s .pre .0 .0) (s .pre .1)
 
 lower-xi-requires : tie.Need-lower-xi-requires

@@ -513,6 +513,7 @@ fn within(inspector: &Wrong) -> Program<'_> {
 /// By the whole run, which begins with meshes, addresses and stamps.
 #[test]
 fn every_faulty_inspector_is_caught() {
+    assert!(run(alike(within(&Wrong(None))), small_plan(), &drop).is_ok(), "without a fault");
     for &fault in faults(Fault::RecordFromBefore, Fault::WritesNothing) {
         is_caught(fault, within(&Wrong(Some(fault))), |pair| run(pair, small_plan(), &drop));
     }
