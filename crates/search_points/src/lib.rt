@@ -1,15 +1,13 @@
 // The record and both bounds of eight points within the limits `base`: with numbers of one word where these suffice, else with numbers of two. An inner
 // crate, and the one place that decides between the two searches; its callers meet what each `requires` asks.
 ghost use mathlib.Core.Path.{_≡_};
-ghost use mathlib.Core.Bool.{true};
-ghost use Prim.Native.Nat.{ℕ, _<_, _≤_};
-ghost use lib.ListN.{length, getD};
-ghost use lib.IntN.{pos, natAbs};
+ghost use Prim.Native.Nat.{_≤_};
+ghost use lib.ListN.{length};
 ghost use Rattle.definitions.specs.Limits.{base};
 ghost use Rattle.definitions.specs.Record.{recordOf};
 ghost use Rattle.search_theory.specs.Bounds.{boundsAt};
 ghost use Rattle.element_vectors.specs.Range.{InRange};
-ghost use Rattle.narrow_points.specs.Points.{oneWordRange, oneWordDepth};
+ghost use Rattle.narrow_points.specs.Points.{nearTo, oneWordUsed};
 ghost use Rattle.wide_bounds.specs.Meaning.{extremesOf};
 use limits::MAX_ONE_WORD_COORDINATE;
 use limits::MIN_ONE_WORD_COORDINATE;
@@ -20,7 +18,7 @@ use wide_number::Wide;
 
 // Whether all 24 coordinates lie in the range of one word. Every one is looked at: without a branch for each the compiler tests four at a time.
 fn all_near(p: &[i32; 24]) -> bool
-    ensures { λ r. ⌜ (r ≡ true → (i : ℕ) → i < 24 → natAbs (getD (now (p .entry)) i (pos 0)) ≤ oneWordRange) ⌝ }
+    ensures { λ r. ⌜ r ≡ nearTo (now (p .entry)) 24 ⌝ }
 {
     let mut near = true;
     for k in 0..24 {
@@ -30,10 +28,9 @@ fn all_near(p: &[i32; 24]) -> bool
     near
 }
 
-// Whether numbers of one word suffice.
+// Whether numbers of one word are used.
 fn one_word(p: &[i32; 24], depth: u32) -> bool
-    requires { ⌜ length (now p) ≡ 24 ⌝ }
-    ensures { λ r. ⌜ (r ≡ true → InRange oneWordRange (now (p .entry)) × (depth ≤ oneWordDepth)) ⌝ }
+    ensures { λ r. ⌜ r ≡ oneWordUsed (now (p .entry)) depth ⌝ }
 {
     (depth <= ONE_WORD_DEPTH) & all_near(p)
 }

@@ -1,8 +1,10 @@
 -- `search_points::bounds` meets its contract: by the numbers that suffice; one word's bounds are the same in two. Assumes nothing.
-use mathlib.Core.Path.{_∙_}
+use mathlib.Core.Path.{sym, _∙_}
 use mir.Syntax.{w64}
 use mir.ValLaws.{toZ-ofZ}
+use denote.Ref.{now}
 use borrow.Author.Needs.{needs}
+use Rattle.narrow_points.specs.Points.{one-word-holds}
 use Rattle.search_points.proofs.bounds.Statement.{statement}
 use Rattle.search_points.proofs.bounds.Tie as tie
 
@@ -10,7 +12,7 @@ one-word-requires : tie.Need-one-word-requires
 one-word-requires c κs = search needs
 
 bounds-requires : tie.Need-bounds-requires
-bounds-requires c κs = c .before .one-word .ensures (c .if1 .taken)
+bounds-requires c κs = let s = c .before .before in one-word-holds (now (s .args .p)) (s .args .depth) (s .pre .1) (sym (c .before .one-word .ensures) ∙ c .if1 .taken)
 
 from-i64-requires : tie.Need-from-i64-requires
 from-i64-requires c κs = search needs

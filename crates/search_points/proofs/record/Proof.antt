@@ -1,5 +1,8 @@
 -- `search_points::record` meets its contract: by the numbers that suffice. Assumes nothing.
+use mathlib.Core.Path.{sym, _∙_}
+use denote.Ref.{now}
 use borrow.Author.Needs.{needs}
+use Rattle.narrow_points.specs.Points.{one-word-holds}
 use Rattle.search_points.proofs.record.Statement.{statement}
 use Rattle.search_points.proofs.record.Tie as tie
 
@@ -7,7 +10,7 @@ one-word-requires : tie.Need-one-word-requires
 one-word-requires c κs = search needs
 
 record-requires : tie.Need-record-requires
-record-requires c κs = c .before .one-word .ensures (c .if1 .taken)
+record-requires c κs = let s = c .before .before in one-word-holds (now (s .args .p)) (s .args .depth) (s .pre .1) (sym (c .before .one-word .ensures) ∙ c .if1 .taken)
 
 returns : tie.Need-returns
 returns c = search needs
