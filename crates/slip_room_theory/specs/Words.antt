@@ -11,7 +11,7 @@ use lib.IntN.{ℤ, pos}
 use mir.Syntax.{w64}
 use mir.Val.{toZ}
 use mir.ValLaws.{toZ-fits}
-use Rattle.foundation.specs.Lists.{All, all-left, all-right, all-getD-default, all-concat, all-tabulate, up}
+use Rattle.foundation.specs.Lists.{All, all-left, all-right, all-getD-default, all-concat, all-tabulate}
 use Rattle.definitions.specs.Limits.{base}
 use Rattle.definitions.specs.TwoWords.{lowWord, highWord}
 use Rattle.definitions.specs.Verdict.{Finding, Verdict, valid, invalid, undecided, verdict, opened}
@@ -21,6 +21,7 @@ use Rattle.wrapping_theory.specs.Words.{are-words}
 use Rattle.verdict_theory.specs.Meaning.{Means, means, invalid-point, undecided-coefficient}
 use Rattle.verdict_theory.specs.Opened.{most, opened-most}
 use Rattle.verdict_theory.specs.Elements.{element-fault, element-points}
+use Rattle.search_theory.specs.Levels.{most-less}
 use Rattle.mesh_points.specs.Search.{first-below}
 use Rattle.mesh_indices.specs.Pairs.{twice-below}
 use Rattle.mesh_indices.specs.Missing.{missing-below}
@@ -30,9 +31,6 @@ use Rattle.slip_format.specs.Room.{Held}
 -- the words of any value
 value-held : (z : ℤ) → Held (toZ w64 (lowWord z)) × Held (toZ w64 (highWord z))
 value-held z = let w = are-words z in (toZ-fits w64 _ (record { fits = w .low-word }) .sfits, toZ-fits w64 _ (record { fits = w .high-word }) .sfits)
-
-few-opened : (D : ℕ) → D ≤ base .depth → most D ≤ most (base .depth)
-few-opened D h = up (λ k. most D ≤ most k) (λ k q. omega arith) D (base .depth) h (omega arith)
 
 grid-small : (m : ℕ) → m ≤ base .depth → 2 ^ m ≤ 2 ^ base .depth
 grid-small m h = pow-le-pow-right {n = 2} (omega arith) h
@@ -63,7 +61,7 @@ module _ (xs : List ℤ) where
 
   pub record-held : (D : ℕ) → D ≤ base .depth → All Held (recordOf xs D)
   unfolding recordOf
-  record-held D h = words-held D (opened xs D) (verdict xs D) h (le-trans (opened-most xs D) (few-opened D h)) (means xs D)
+  record-held D h = words-held D (opened xs D) (verdict xs D) h (le-trans (opened-most xs D) (most-less D h)) (means xs D)
 
 -- ---- the record of an element whose indices are numbers of 32 bits
 abbrev Index : ℕ → Type 0
