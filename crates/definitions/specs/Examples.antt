@@ -13,6 +13,7 @@ use Rattle.definitions.specs.TwoWords.{value}
 use Rattle.definitions.specs.Jacobian.{jacobian, scaledJacobian}
 use Rattle.definitions.specs.Coefficients.{numbered, numbers, at, coefficients}
 use Rattle.definitions.specs.Subdivision.{rows, halve, child, children, whole}
+use Rattle.definitions.specs.Eighths.{leastNumber, eighths}
 use Rattle.definitions.specs.Verdict.{cornersOf, coefficientsOf, lowPoint, lowCoefficient, lastLevel, validLevel, verdict, openedBelow, openedCells, opened}
 use Rattle.definitions.specs.Bounds.{low, high}
 use Rattle.definitions.specs.Record.{words, valueHeld, recordOf}
@@ -169,6 +170,30 @@ every-pair = refl
 
 pub pairs-are-28 : length pairs ≡ 28
 pairs-are-28 = refl
+
+-- ---- 02, No. 7: the least of each of the eight children, and the lowest number that holds it, as a single list under one claim
+-- a tangled element: its children's leasts stand at eight numbers, of which none is that of the first coefficient ≤ 0
+abbrev pub tangled : List ℤ
+tangled = negsuc 0 ∷ negsuc 1 ∷ pos 1 ∷ pos 3 ∷ pos 0 ∷ negsuc 0 ∷ pos 2 ∷ pos 4 ∷ negsuc 0 ∷ pos 2 ∷ pos 1 ∷ negsuc 0 ∷ negsuc 1 ∷ pos 2 ∷ pos 4 ∷ pos 0 ∷ pos 0 ∷ pos 0 ∷ pos 4 ∷ pos 0 ∷ pos 2 ∷ pos 2 ∷ pos 1 ∷ pos 0 ∷ []
+
+pub record Cut : Type 0 where
+  pub nodes : List ℤ
+  pub leasts : List ℤ
+  pub numbers : List ℕ
+
+-- of the unit cube all 27 are equal; of F the least is held by nine
+abbrev pub cuts : List Cut
+cuts =
+    record { nodes = unitCube; leasts = pos 512 ∷ pos 512 ∷ pos 512 ∷ pos 512 ∷ pos 512 ∷ pos 512 ∷ pos 512 ∷ pos 512 ∷ []; numbers = 1 ∷ 1 ∷ 1 ∷ 1 ∷ 1 ∷ 1 ∷ 1 ∷ 1 ∷ [] } ∷
+    record { nodes = wideTwist; leasts = negsuc 1023 ∷ negsuc 1023 ∷ negsuc 1023 ∷ negsuc 1023 ∷ pos 512 ∷ pos 512 ∷ pos 512 ∷ pos 512 ∷ []; numbers = 13 ∷ 13 ∷ 13 ∷ 13 ∷ 1 ∷ 1 ∷ 1 ∷ 1 ∷ [] } ∷
+    record { nodes = tangled; leasts = negsuc 4607 ∷ negsuc 9471 ∷ negsuc 5887 ∷ negsuc 6911 ∷ negsuc 12031 ∷ negsuc 8703 ∷ negsuc 7423 ∷ negsuc 6271 ∷ []; numbers = 6 ∷ 14 ∷ 8 ∷ 11 ∷ 17 ∷ 13 ∷ 19 ∷ 15 ∷ [] } ∷ []
+
+abbrev pub Told : Cut → Type 0
+Told c = (map (λ e. e .least) (eighths (whole (c .nodes))) ≡ c .leasts) × (map (λ e. e .number) (eighths (whole (c .nodes))) ≡ c .numbers)
+
+pub cuts-told : All Told cuts
+unfolding numbered at coefficients halve child children whole leastNumber eighths
+cuts-told = ((refl, refl), ((refl, refl), ((refl, refl), tt)))
 
 -- ---- a mesh of two elements, the second with a missing node, and room for 18 words
 abbrev pub twoElements : List ℕ

@@ -3,6 +3,7 @@ pub mod TwoWords
 pub mod Jacobian
 pub mod Coefficients
 pub mod Subdivision
+pub mod Eighths
 pub mod Address
 pub mod Verdict
 pub mod Bounds

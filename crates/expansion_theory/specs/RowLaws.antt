@@ -36,14 +36,14 @@ second (suc (suc d)) = 1
 abbrev placeIn : ℕ → ℕ → ℕ
 placeIn e n = place e (getD numbering n [])
 
-abbrev stand : ℕ → ℕ → ℕ
+abbrev pub stand : ℕ → ℕ → ℕ
 stand d n = 9 * placeIn (first d) n + 3 * placeIn (second d) n + placeIn d n
 
 module _ (d x : ℕ) (ld : d < 3) (lx : x < 27) where
-  line-small : inLine d x < 27
+  pub line-small : inLine d x < 27
   line-small = omega (arith, everywhere (λ d x. inLine d x % 27) inLine tt d x ld lx)
 
-  stand-small : stand d x < 27
+  pub stand-small : stand d x < 27
   stand-small = omega (arith, everywhere (λ d x. stand d x % 27) stand tt d x ld lx)
 
   first-place : placeIn (first d) (inLine d x) ≡ x / 9
@@ -58,7 +58,7 @@ module _ (d x : ℕ) (ld : d < 3) (lx : x < 27) where
   stand-line : stand d (inLine d x) ≡ x
   stand-line = omega (arith, first-place, second-place, own-place)
 
-  line-stand : inLine d (stand d x) ≡ x
+  pub line-stand : inLine d (stand d x) ≡ x
   line-stand = everywhere (λ d x. inLine d (stand d x)) (λ d x. x) tt d x ld lx
 
 -- the numbers of a row are those of coefficients

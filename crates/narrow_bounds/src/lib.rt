@@ -2,10 +2,9 @@
 // numbers stay small enough at every level that is asked for (`Small`).
 ghost use mathlib.Core.Path.{_≡_};
 ghost use mathlib.Core.List.{List};
-ghost use Prim.Native.Nat.{_≤_};
 ghost use lib.ListN.{length, take};
 ghost use lib.IntN.{ℤ};
-ghost use Rattle.foundation.specs.Least.{lesser as lesserOf, leastFrom};
+ghost use Rattle.foundation.specs.Least.{leastFrom, leastOf};
 ghost use Rattle.definitions.specs.Coefficients.{coefficients};
 ghost use Rattle.definitions.specs.Subdivision.{Cell};
 ghost use Rattle.verdict_theory.specs.Extremes.{extremes as extremesBelow};
@@ -23,58 +22,48 @@ pub struct Extremes {
     pub high: i64,
 }
 
-fn lesser(x: i64, y: i64) -> i64
-    ensures { λ r. ⌜ r ≡ lesserOf x y ⌝ }
-{
-    if x <= y {
-        return x;
-    }
-    y
-}
-
-// The least of v and the first n coefficients.
-fn least(g: &[i64; 27], n: usize, v: i64) -> i64
-    requires { ⌜ (length (now g) ≡ 27) × (n ≤ 27) ⌝ }
-    ensures { λ r. ⌜ r ≡ leastFrom v (take n (now (g .entry))) ⌝ }
+// The least of v and the corners, the first eight coefficients.
+fn with_corners(g: &[i64; 27], v: i64) -> i64
+    requires { ⌜ length (now g) ≡ 27 ⌝ }
+    ensures { λ r. ⌜ r ≡ leastFrom v (take 8 (now (g .entry))) ⌝ }
 {
     let mut r = v;
-    for k in 0..n {
-        let x = g[k];
-        r = lesser(r, x);
+    for n in 0..8 {
+        let x = g[n];
+        r = narrow_least::lesser(r, x);
     }
     r
 }
 
-// One cell more.
-fn with_cell(g: &[i64; 27], r: Extremes) -> Extremes
-    requires { ⌜ length (now g) ≡ 27 ⌝ }
+// One cell more, with its least coefficient.
+fn with_cell(g: &[i64; 27], least: i64, r: Extremes) -> Extremes
+    requires { ⌜ (length (now g) ≡ 27) × (least ≡ leastOf (now g)) ⌝ }
     ensures { λ s. ⌜ extremesOf s ≡ withControl (now (g .entry)) (extremesOf r) ⌝ }
 {
     let low = r.low;
     let high = r.high;
     Extremes {
-        low: least(g, 27, low),
-        high: least(g, 8, high),
+        low: narrow_least::lesser(low, least),
+        high: with_corners(g, high),
     }
 }
 
-// The cells `left` levels below this one, after those seen before.
-fn survey(g: &[i64; 27], left: u32, r: Extremes) -> Extremes
-    requires { ⌜ Small largest (now g) left ⌝ }
+// The cells `left` levels below this one, of which the least coefficient is told, after those seen before.
+fn survey(g: &[i64; 27], least: i64, left: u32, r: Extremes) -> Extremes
+    requires { ⌜ Small largest (now g) left × (least ≡ leastOf (now g)) ⌝ }
     ensures { λ e. ⌜ ((s : Cell) → s .control ≡ now (g .entry) → extremesOf e ≡ extremesBelow left s (extremesOf r)) ⌝ }
 {
     if left == 0 {
-        return with_cell(g, r);
+        return with_cell(g, least, r);
     }
     let mut half = [0i64; 27];
     let mut quarter = [0i64; 27];
     let mut child = [0i64; 27];
     let mut e = r;
     for k in 0..8 {
-        narrow_children::half_at(2, k % 4 == 0, g, k, &mut half);
-        narrow_children::half_at(1, k % 2 == 0, &half, k, &mut quarter);
-        narrow_subdivision::halve(0, cell_corners::side(0, k), &quarter, &mut child);
-        e = survey(&child, left - 1, e);
+        narrow_children::quarter_at(g, k, &mut half, &mut quarter);
+        let told = narrow_children::eighth(k, &quarter, &mut child);
+        e = survey(&child, told.value, left - 1, e);
     }
     e
 }
@@ -84,8 +73,10 @@ pub fn bounds(g: &[i64; 27], depth: u32) -> Extremes
     requires { ⌜ Small largest (now g) depth ⌝ }
     ensures { λ r. ⌜ ((xs : List ℤ) → now (g .entry) ≡ coefficients xs → extremesOf r ≡ boundsAt xs depth) ⌝ }
 {
+    let whole = narrow_least::least_of(g);
     survey(
         g,
+        whole.value,
         depth,
         Extremes {
             low: GREATEST,

@@ -25,7 +25,7 @@ fn middle(p: i64, q: i64, r: i64) -> i64
     2 * s
 }
 
-fn end(p: i64, q: i64, r: i64) -> i64
+pub fn end(p: i64, q: i64, r: i64) -> i64
     requires { ⌜ Within cutLargest (p ∷ q ∷ r ∷ []) ⌝ }
     ensures { λ v. ⌜ v ≡ cutRow integers 0 (args (p ∷ q ∷ r ∷ [])) 2 ⌝ }
 {

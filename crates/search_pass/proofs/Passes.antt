@@ -11,7 +11,8 @@ use Rattle.definitions.specs.TwoWords.{lowWord, highWord}
 use Rattle.definitions.specs.Record.{verdictWords}
 use Rattle.verdict_theory.specs.Search.{Found, nothing, coefficient, point, Pass, ended}
 use Rattle.search_pass.specs.Meaning.{layout, foundWords, passWords}
-use Rattle.search_theory.specs.Levels.{isBlocked, outcome}
+use Rattle.search_theory.specs.Visit.{isBlocked}
+use Rattle.search_theory.specs.Levels.{outcome}
 
 -- word 0
 kind-ended : (o : Found) (n : ℕ) → eqb (ofZ w64 (getD (foundWords o n) 0 (pos 0))) 1 ≡ ended o

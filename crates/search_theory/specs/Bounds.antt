@@ -5,12 +5,12 @@ use Prim.Native.Nat.{ℕ, zero, suc, _+_, _-_, _*_, _^_, _<_, _≤_}
 use native.Mathlib.Nat.{le-trans}
 use native.Mathlib.Omega.{arith}
 use lib.ListN.{getD, length, take, drop}
-use lib.Seq.{drop-cons, take-suc}
+use lib.Seq.{drop-cons, take-suc, take-all}
 use lib.Dec.{le→leb}
 use lib.IntN.{ℤ, pos, negsuc, natAbs}
 use lib.Signed.{_≤ℤ_, leZ-yes}
 use Rattle.foundation.specs.Lists.{All, all-map, all-both, all-image, all-concat, all-getD, concatMap, tabulate}
-use Rattle.foundation.specs.Least.{lesser, leastFrom, least-all}
+use Rattle.foundation.specs.Least.{lesser, leastFrom, leastOf, least-all}
 use Rattle.definitions.specs.Jacobian.{side}
 use Rattle.definitions.specs.Subdivision.{Cell, child, children, whole, cells}
 use Rattle.definitions.specs.Verdict.{Finding, cornersOf, coefficientsOf}
@@ -24,11 +24,12 @@ use Rattle.verdict_theory.specs.Clear.{childControl, child-control}
 use Rattle.verdict_theory.specs.Bounds.{shown-some, high-corners, coefficients-some, corners-some}
 use Rattle.verdict_theory.specs.Extremes.{Extremes, withAll, extremes, extremes-bounds}
 use Rattle.search_theory.specs.Meaning.{Small}
+use Rattle.search_theory.specs.Eighths.{least-with}
 use Rattle.search_theory.specs.Levels.{wholeOf, whole-is}
 
--- the 27 coefficients of one cell more, of which the first 8 are its corners
+-- one cell more: the least of its 27 coefficients, and the first 8 of them, its corners
 abbrev pub withControl : List ℤ → Extremes → Extremes
-withControl g r = record { low = leastFrom (r .low) (take 27 g); high = leastFrom (r .high) (take 8 g) }
+withControl g r = record { low = lesser (r .low) (leastOf g); high = leastFrom (r .high) (take 8 g) }
 
 -- the values of findings that are numbered from a list are that list
 values-from : (g : List ℤ) (f : ℕ → Finding) → ((k : ℕ) → f k .value ≡ getD g k (pos 0)) → (k n : ℕ) → k + n ≤ length g → map (λ v. v .value) (tabulate f k n) ≡ take n (drop k g)
@@ -47,7 +48,9 @@ module _ (s : Cell) (sized : length (s .control) ≡ 27) where
   -- the cell at the end
   pub with-last : (n : ℕ) → n ≡ 0 → (g : List ℤ) → s .control ≡ g → (r : Extremes) → withControl g r ≡ extremes n s r
   unfolding extremes
-  with-last n e g h r = ap (λ (c : List ℤ). withControl c r) (sym h) ∙ (λ i. record { low = leastFrom (r .low) (sym coefficient-values i); high = leastFrom (r .high) (sym corner-values i) }) ∙ ap (λ (m : ℕ). extremes m s r) (sym e)
+  with-last n e g h r =
+      let low = sym (ap (leastFrom (r .low)) (coefficient-values ∙ take-all 27 (s .control) (omega (arith, sized))) ∙ least-with (s .control) sized (r .low)) in
+      ap (λ (c : List ℤ). withControl c r) (sym h) ∙ (λ i. record { low = low i; high = leastFrom (r .high) (sym corner-values i) }) ∙ ap (λ (m : ℕ). extremes m s r) (sym e)
 
 -- ---- the first k children, where n levels are left
 abbrev pub extremesOver : Cell → Extremes → ℕ → ℕ → Extremes

@@ -35,6 +35,9 @@ pub after-some : (k n : ℕ) → (n ≡ 0 → ⊥) → after k n ≡ k + n
 after-some k zero h = absurd (h refl)
 after-some k (suc n) h = refl
 
+pub child-length : (g : List ℤ) (k : ℕ) → length (childControl g k) ≡ 27
+child-length g k = length-halve 2 (side 2 k) (halve 1 (side 1 k) (halve 0 (side 0 k) g))
+
 module _ (g : List ℤ) where
   same-half : (j k : ℕ) → j < 8 → k < 8 → j / 4 ≡ k / 4 → halfOf g j ≡ halfOf g k
   same-half j k l m e = ap (λ (z : ℕ). halve 2 z g) (half-kept j l ∙ ap (λ (n : ℕ). side 2 (4 * n)) e ∙ sym (half-kept k m))
@@ -53,46 +56,77 @@ module _ (g : List ℤ) where
   pub ready-first : (half quarter : List ℤ) → length half ≡ 27 → length quarter ≡ 27 → Ready 0 half quarter
   ready-first half quarter p q = record { half-sized = p; quarter-sized = q; half-is = λ h. absurd (h refl); quarter-is = λ h. absurd (h refl) }
 
-  -- n children from k on are known to have no low coefficient; where none is, the quarter is child k's; and the next child may come
-  pub record Run (k n : ℕ) (half quarter : List ℤ) : Type 0 where
-    pub quarter-is : n ≡ 0 → quarter ≡ quarterOf g k
-    pub clears : (j : ℕ) → k ≤ j → j < k + n → Clear (childControl g j)
-    pub end : k + n ≤ 8
-    pub next : after k n < 8 → Ready (after k n) half quarter
-
   pub half-length : (k : ℕ) (half : List ℤ) → half ≡ halfOf g k → length half ≡ 27
   half-length k half e = ap length e ∙ length-halve 2 (side 2 k) g
 
   pub quarter-length : (k : ℕ) (quarter : List ℤ) → quarter ≡ quarterOf g k → length quarter ≡ 27
   quarter-length k quarter e = ap length e ∙ length-halve 1 (side 1 k) (halfOf g k)
 
-  module _ (k : ℕ) (h : k < 8) (half quarter : List ℤ) where
+  -- after child k
+  pub ready-next : (k : ℕ) → k + 1 < 8 → (half quarter : List ℤ) → half ≡ halfOf g k → quarter ≡ quarterOf g k → Ready (k + 1) half quarter
+  ready-next k m half quarter e f = let l : k < 8 = omega arith in record {
+    half-sized = half-length k half e;
+    quarter-sized = quarter-length k quarter f;
+    half-is = λ n. e ∙ same-half k (k + 1) l m (omega arith);
+    quarter-is = λ n. f ∙ same-quarter k (k + 1) l m (omega arith);
+  }
+
+  -- n children from k on are known to have no low coefficient; where none is, child k is made and has one; and the next child may come
+  pub record Run (k n : ℕ) (half quarter made : List ℤ) : Type 0 where
+    pub clears : (j : ℕ) → k ≤ j → j < k + n → Clear (childControl g j)
+    pub made-is : n ≡ 0 → made ≡ childControl g k
+    pub made-low : n ≡ 0 → lowest made ≡ 0 → ⊥
+    pub made-sized : length made ≡ 27
+    pub end : k + n ≤ 8
+    pub next : after k n < 8 → Ready (after k n) half quarter
+
+  module _ (k : ℕ) (h : k < 8) (half quarter made : List ℤ) where
     -- the half has none: four children
-    pub run-four : k % 4 ≡ 0 → half ≡ halfOf g k → length quarter ≡ 27 → Clear half → Run k 4 half quarter
-    run-four z e q p = record {
-      quarter-is = λ n. absurd (omega arith);
+    pub run-four : k % 4 ≡ 0 → half ≡ halfOf g k → length quarter ≡ 27 → length made ≡ 27 → Clear half → Run k 4 half quarter made
+    run-four z e q c p = record {
       clears = λ j l m. half-clear g j (subst Clear (e ∙ same-half k j h (omega arith) (omega arith)) p);
+      made-is = λ n. absurd (omega arith);
+      made-low = λ n. absurd (omega arith);
+      made-sized = c;
       end = omega arith;
       next = λ m. record { half-sized = half-length k half e; quarter-sized = q; half-is = λ n. absurd (n (omega arith)); quarter-is = λ n. absurd (n (omega arith)) };
     }
 
     -- the quarter has none: two
-    pub run-two : k % 2 ≡ 0 → half ≡ halfOf g k → quarter ≡ quarterOf g k → Clear quarter → Run k 2 half quarter
-    run-two z e f p = record {
-      quarter-is = λ n. absurd (omega arith);
+    pub run-two : k % 2 ≡ 0 → half ≡ halfOf g k → quarter ≡ quarterOf g k → length made ≡ 27 → Clear quarter → Run k 2 half quarter made
+    run-two z e f c p = record {
       clears = λ j l m. quarter-clear g j (subst Clear (f ∙ same-quarter k j h (omega arith) (omega arith)) p);
+      made-is = λ n. absurd (omega arith);
+      made-low = λ n. absurd (omega arith);
+      made-sized = c;
       end = omega arith;
       next = λ m. record { half-sized = half-length k half e; quarter-sized = quarter-length k quarter f; half-is = λ n. e ∙ same-half k (k + 2) h m (omega arith); quarter-is = λ n. absurd (n (omega arith)) };
     }
 
-    -- not known
-    pub run-none : half ≡ halfOf g k → quarter ≡ quarterOf g k → Run k 0 half quarter
-    run-none e f = record {
-      quarter-is = λ n. f;
-      clears = λ j l m. absurd (omega arith);
-      end = omega arith;
-      next = λ m. record { half-sized = half-length k half e; quarter-sized = quarter-length k quarter f; half-is = λ n. e ∙ same-half k (k + 1) h m (omega arith); quarter-is = λ n. f ∙ same-quarter k (k + 1) h m (omega arith) };
-    }
+    -- child k is made: it has none, or one
+    module _ (e : half ≡ halfOf g k) (f : quarter ≡ quarterOf g k) (c : made ≡ childControl g k) where
+      made-length : length made ≡ 27
+      made-length = ap length c ∙ child-length g k
+
+      pub run-one : Clear (childControl g k) → Run k 1 half quarter made
+      run-one p = record {
+        clears = λ j l m. let i : k ≡ j = omega arith in subst (λ (n : ℕ). Clear (childControl g n)) i p;
+        made-is = λ n. absurd (omega arith);
+        made-low = λ n. absurd (omega arith);
+        made-sized = made-length;
+        end = omega arith;
+        next = λ m. ready-next k m half quarter e f;
+      }
+
+      pub run-none : (lowest (childControl g k) ≡ 0 → ⊥) → Run k 0 half quarter made
+      run-none p = record {
+        clears = λ j l m. absurd (omega arith);
+        made-is = λ n. c;
+        made-low = λ n z. p (sym (ap lowest c) ∙ z);
+        made-sized = made-length;
+        end = omega arith;
+        next = λ m. ready-next k m half quarter e f;
+      }
 
 -- 27 coefficients without a lowest are clear
 pub lowest-clear : (c : List ℤ) → length c ≡ 27 → lowest c ≡ 0 → Clear c

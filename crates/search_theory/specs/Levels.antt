@@ -2,9 +2,10 @@
 use mathlib.Core.Path.{_≡_, refl, sym, _∙_, ap, subst}
 use mathlib.Core.Bool.{Bool, true, false, true≢false}
 use mathlib.Core.List.{List}
-use Prim.Native.Nat.{ℕ, suc, _+_, _*_, _^_, _<_, _≤_}
+use Prim.Native.Nat.{ℕ, suc, _+_, _*_, _^_, _<_, _≤_, zero-le}
 use native.Mathlib.Nat.{le-trans, mul-le-mul-left, pow-le-pow-right, zero-lt-suc}
 use native.Mathlib.Omega.{arith}
+use lib.ListN.{length}
 use lib.IntN.{ℤ, natAbs}
 use Rattle.foundation.specs.Lists.{All, all-map, up}
 use Rattle.definitions.specs.Limits.{base}
@@ -16,8 +17,8 @@ use Rattle.definitions.specs.Verdict.{Verdict, valid, invalid, undecided, verdi
 use Rattle.verdict_theory.specs.Search.{Found, nothing, coefficient, point, Pass, pass, visit}
 use Rattle.verdict_theory.specs.Opened.{most}
 use Rattle.verdict_theory.specs.Passes.{Before, before-first, pass-point, pass-nothing, pass-last, pass-on}
-use Rattle.search_theory.specs.Meaning.{cellOf, Small, countRoom, Grid, Room, Held}
-use Rattle.search_theory.specs.Visit.{visit-count}
+use Rattle.search_theory.specs.Meaning.{cellOf, lowest, Small, countRoom, Grid, Room, Held}
+use Rattle.search_theory.specs.Visit.{visit-none, visit-count, isBlocked}
 
 abbrev pub wholeOf : List ℤ → Cell
 wholeOf g = cellOf 0 0 0 g
@@ -25,11 +26,6 @@ wholeOf g = cellOf 0 0 0 g
 -- nothing found yet, n cells opened
 abbrev pub fresh : ℕ → Pass
 fresh n = record { count = n; found = nothing }
-
-abbrev pub isBlocked : Found → Bool
-isBlocked nothing = false
-isBlocked (coefficient f) = true
-isBlocked (point f) = false
 
 abbrev pub outcome : ℕ → Found → Verdict
 outcome l nothing = valid l
@@ -70,6 +66,12 @@ settled xs m D r l h last = go (r .found) refl
     go nothing q = let w = pass-nothing xs m (h .earlier) (h .before) (r .count) (r .found) (h .made) q D l in (ap (outcome m) q ∙ w .0, w .1)
     go (coefficient f) q = let w = pass-last xs m (h .earlier) (h .before) (r .count) (r .found) (h .made) f q in let e = last (ap isBlocked q) in (ap (outcome m) q ∙ w .0 ∙ ap (verdict xs) e, w .1 ∙ ap (opened xs) e)
     go (point f) q = let w = pass-point xs m (h .earlier) (h .before) (r .count) (r .found) (h .made) f q D l in (ap (outcome m) q ∙ w .0, w .1)
+
+-- an element without a low coefficient needs no pass
+pub settled-clear : (xs g : List ℤ) → g ≡ coefficients xs → length g ≡ 27 → lowest g ≡ 0 → (D : ℕ) → (outcome 0 nothing ≡ verdict xs D) × (1 ≡ opened xs D)
+settled-clear xs g e h low D =
+    let q : record { count = 1; found = nothing } ≡ visit 0 (wholeOf g) (fresh 0) = visit-none (wholeOf g) (fresh 0) refl 0 h low in
+    settled xs 0 D (record { count = 1; found = nothing }) zero-le (at-first xs g e (record { count = 1; found = nothing }) q) (λ b. absurd (true≢false (sym b)))
 
 whole-within : (b : ℕ) (xs g : List ℤ) → g ≡ coefficients xs → All (λ v. natAbs v ≤ b) g → All (λ v. natAbs v ≤ b) (whole xs .control)
 unfolding whole

@@ -1,7 +1,9 @@
 pub mod Meaning
 pub mod Points
 pub mod Lowest
+pub mod Grid
 pub mod Children
+pub mod Eighths
 pub mod Visit
 pub mod Levels
 pub mod Bounds

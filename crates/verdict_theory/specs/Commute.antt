@@ -56,7 +56,7 @@ rows-commute h i x y g = (λ k. cutRow integers h (λ t. row-is i y (g t) k) x) 
     ∙ sym ((λ k. cutRow integers i (λ u. row-is h x (λ t. g t u) k) y) ∙ row-is i y (λ u. against integers (weight h x) (λ t. g t u)))
 
 -- ---- a half of a half
-halve-numbered : (d h : ℕ) (f : ℕ → ℕ → ℕ → ℤ) → halve d h (numbered f) ≡ numbered (cut integers d h f)
+pub halve-numbered : (d h : ℕ) (f : ℕ → ℕ → ℕ → ℤ) → halve d h (numbered f) ≡ numbered (cut integers d h f)
 unfolding halve numbered at
 halve-numbered zero zero f = refl
 halve-numbered zero (suc h) f = refl

@@ -2,10 +2,9 @@
 // numbers stay small enough at every level that is asked for (`Small`).
 ghost use mathlib.Core.Path.{_≡_};
 ghost use mathlib.Core.List.{List};
-ghost use Prim.Native.Nat.{_≤_};
 ghost use lib.ListN.{take};
 ghost use lib.IntN.{ℤ};
-ghost use Rattle.foundation.specs.Least.{lesser as lesserOf, leastFrom};
+ghost use Rattle.foundation.specs.Least.{leastFrom, leastOf};
 ghost use Rattle.definitions.specs.Coefficients.{coefficients};
 ghost use Rattle.definitions.specs.Subdivision.{Cell};
 ghost use Rattle.verdict_theory.specs.Extremes.{extremes as extremesBelow};
@@ -28,57 +27,48 @@ pub struct Extremes {
     pub high: Wide,
 }
 
-fn lesser(x: Wide, y: Wide) -> Wide
-    ensures { λ r. ⌜ valueOf r ≡ lesserOf (valueOf x) (valueOf y) ⌝ }
-{
-    if x.at_most(y) {
-        return x;
-    }
-    y
-}
-
-// The least of v and the first n coefficients.
-fn least(g: &[u64; 54], n: usize, v: Wide) -> Wide
-    requires { ⌜ n ≤ 27 ⌝ }
-    ensures { λ r. ⌜ valueOf r ≡ leastFrom (valueOf v) (take n (values (now (g .entry)))) ⌝ }
+// The least of v and the corners, the first eight coefficients.
+fn with_corners(g: &[u64; 54], v: Wide) -> Wide
+    ensures { λ r. ⌜ valueOf r ≡ leastFrom (valueOf v) (take 8 (values (now (g .entry)))) ⌝ }
 {
     let mut r = v;
-    for k in 0..n {
-        let x = wide_array::at(g, k);
-        r = lesser(r, x);
+    for n in 0..8 {
+        let x = wide_array::at(g, n);
+        r = wide_least::lesser(r, x);
     }
     r
 }
 
-// One cell more.
-fn with_cell(g: &[u64; 54], r: Extremes) -> Extremes
+// One cell more, with its least coefficient.
+fn with_cell(g: &[u64; 54], least: Wide, r: Extremes) -> Extremes
+    requires { ⌜ valueOf least ≡ leastOf (values (now g)) ⌝ }
     ensures { λ s. ⌜ extremesOf s ≡ withControl (values (now (g .entry))) (extremesOf r) ⌝ }
 {
     let low = r.low;
     let high = r.high;
     Extremes {
-        low: least(g, 27, low),
-        high: least(g, 8, high),
+        low: wide_least::lesser(low, least),
+        high: with_corners(g, high),
     }
 }
 
-// The cells `left` levels below this one, after those seen before.
-fn survey(g: &[u64; 54], left: u32, r: Extremes) -> Extremes
-    requires { ⌜ Small largest (values (now g)) left ⌝ }
+// The cells `left` levels below this one, of which the least coefficient is told, after those seen before.
+fn survey(g: &[u64; 54], least: Wide, left: u32, r: Extremes) -> Extremes
+    requires { ⌜ Small largest (values (now g)) left × (valueOf least ≡ leastOf (values (now g))) ⌝ }
     ensures { λ e. ⌜ ((s : Cell) → s .control ≡ values (now (g .entry)) → extremesOf e ≡ extremesBelow left s (extremesOf r)) ⌝ }
 {
     if left == 0 {
-        return with_cell(g, r);
+        return with_cell(g, least, r);
     }
     let mut half = [0u64; 54];
     let mut quarter = [0u64; 54];
     let mut child = [0u64; 54];
     let mut e = r;
     for k in 0..8 {
-        wide_children::half_at(2, k % 4 == 0, g, k, &mut half);
-        wide_children::half_at(1, k % 2 == 0, &half, k, &mut quarter);
-        wide_subdivision::halve(0, cell_corners::side(0, k), &quarter, &mut child);
-        e = survey(&child, left - 1, e);
+        wide_children::quarter_at(g, k, &mut half, &mut quarter);
+        let told = wide_children::eighth(k, &quarter, &mut child);
+        let value = told.value;
+        e = survey(&child, value, left - 1, e);
     }
     e
 }
@@ -88,8 +78,10 @@ pub fn bounds(g: &[u64; 54], depth: u32) -> Extremes
     requires { ⌜ Small largest (values (now g)) depth ⌝ }
     ensures { λ r. ⌜ ((xs : List ℤ) → values (now (g .entry)) ≡ coefficients xs → extremesOf r ≡ boundsAt xs depth) ⌝ }
 {
+    let whole = wide_least::least_of(g);
     survey(
         g,
+        whole.value,
         depth,
         Extremes {
             low: Wide {

@@ -29,7 +29,7 @@ fn middle(p: Wide, q: Wide, r: Wide) -> Wide
     s.twice()
 }
 
-fn end(p: Wide, q: Wide, r: Wide) -> Wide
+pub fn end(p: Wide, q: Wide, r: Wide) -> Wide
     requires { ⌜ Within cutLargest (valueOf p ∷ valueOf q ∷ valueOf r ∷ []) ⌝ }
     ensures { λ v. ⌜ valueOf v ≡ cutRow integers 0 (args (valueOf p ∷ valueOf q ∷ valueOf r ∷ [])) 2 ⌝ }
 {

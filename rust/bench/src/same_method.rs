@@ -1,10 +1,16 @@
 //! The product's own method in ordinary Rust: twenty volumes, each row of the
 //! table from the list of its non-zero places, coefficients in the order of their
 //! numbers, one pass of the search for every level, children made by halves, and
-//! those of a half without a low coefficient passed over.  The rows of the table are
-//! one loop; in the library they are four, which the compiler writes out.  A half
-//! branches six ways, and its rows are written out, as in the library.  For numbers
-//! of one word and of two.
+//! those of a half without a low coefficient passed over.  A child is made with its
+//! least coefficient, and visited only where that is not above 0.  Once a pass has
+//! found a low coefficient, it looks for low corners alone: in a cell above the last
+//! level J is taken at the 27 grid points before a child is made, and where it is
+//! above 0 at all of them, the children that are left are passed over.
+//!
+//! The rows of the table are one loop; in the library they are four, which the
+//! compiler writes out.  A half branches six ways, and its rows are written out, as in
+//! the library.  The number of the least, which the library answers too, is not asked
+//! for in a search and left out.  For numbers of one word and of two.
 
 use crate::mesh::{
     determinant, difference, invalid, sum, undecided, valid, Answer, Held, Record, CORNERS,
@@ -257,6 +263,52 @@ fn half<N: Held, const DIRECTION: usize, const UPPER: bool>(net: &Net<N>, out: &
     }
 }
 
+/// The least of the 27, row by row in xi.
+#[inline(always)]
+fn least<N: Held>(net: &Net<N>) -> N {
+    let of_row = |[x, y, z]: [usize; 3]| net[x].min(net[y]).min(net[z]);
+    let [first, rows @ ..] = ROWS[0];
+    rows.into_iter().map(of_row).fold(of_row(first), N::min)
+}
+
+/// The child on a side of its quarter, and the least of its coefficients.
+#[inline(never)]
+fn eighth<N: Held>(quarter: &Net<N>, side: u32, child: &mut Net<N>) -> N {
+    halve(quarter, 0, side, child);
+    least(child)
+}
+
+/// J in the middle of a row, four times.
+#[inline(always)]
+fn middle<N: Held>([p, q, r]: [N; 3]) -> N {
+    p + q.times(2) + r
+}
+
+/// Whether J is above 0 at the three points of a row: its ends and its middle.  Only
+/// signs matter, so nothing is scaled.
+#[inline(always)]
+fn clear_in_row<N: Held>([p, q, r]: [N; 3]) -> bool {
+    (p > N::ZERO) & (r > N::ZERO) & (middle([p, q, r]) > N::ZERO)
+}
+
+/// The same at the nine points of a plane of three rows in zeta.
+#[inline(always)]
+fn clear_in_plane<N: Held>([a, b, c, d, e, f, g, h, i]: [N; 9]) -> bool {
+    let between = [middle([a, d, g]), middle([b, e, h]), middle([c, f, i])];
+    clear_in_row([a, b, c]) && clear_in_row(between) && clear_in_row([g, h, i])
+}
+
+/// Whether J is above 0 at the 27 grid points of the next level in a cell: in the planes
+/// of the starts, the ends and the middles of the rows in xi.
+#[inline(never)]
+fn clear_at_points<N: Held>(net: &Net<N>) -> bool {
+    let starts = ROWS[0].map(|[x, _, _]| net[x]);
+    let ends = ROWS[0].map(|[_, _, z]| net[z]);
+    clear_in_plane(starts)
+        && clear_in_plane(ends)
+        && clear_in_plane(ROWS[0].map(|row| middle(row.map(|at| net[at]))))
+}
+
 /// What a pass has found.
 enum Found<N> {
     Nothing,
@@ -270,12 +322,10 @@ struct Pass<N> {
 }
 
 impl<N: Held> Pass<N> {
+    /// A cell of the last level with a low coefficient.
     fn open(&mut self, net: &Net<N>, cube: [u32; 3]) {
         self.opened += 1;
         let number = lowest(net);
-        if number == 0 {
-            return;
-        }
         let held = net[number - 1];
         if number <= 8 {
             self.found = Found::Corner { cube, corner: number - 1, held };
@@ -291,14 +341,23 @@ impl<N: Held> Pass<N> {
         }
     }
 
-    fn visit(&mut self, net: &Net<N>, cube: [u32; 3], left: u32) {
-        if matches!(self.found, Found::Corner { .. }) {
-            return;
+    /// Whether nothing more can be found in the last children of a cell: they are cells
+    /// of the last level, of which only a low corner would matter, and none has one.
+    fn passes_over(&mut self, children: u32, net: &Net<N>, left: u32) -> bool {
+        let only_corners = left == 1 && matches!(self.found, Found::Coefficient { .. });
+        let clear = only_corners && clear_at_points(net);
+        if clear {
+            self.opened += children;
         }
+        clear
+    }
+
+    /// A cell that is known to have a low coefficient.
+    fn visit(&mut self, net: &Net<N>, cube: [u32; 3], left: u32) {
         if left == 0 {
             return self.open(net, cube);
         }
-        if lowest(net) == 0 {
+        if self.passes_over(8, net, left) {
             return;
         }
         let [mut half, mut quarter, mut child] = [[N::ZERO; 27]; 3];
@@ -321,16 +380,25 @@ impl<N: Held> Pass<N> {
                     continue;
                 }
             }
-            halve(&quarter, 0, place[0], &mut child);
-            let at = [0, 1, 2].map(|axis| 2 * cube[axis] + place[axis]);
-            self.visit(&child, at, left - 1);
+            if eighth(&quarter, place[0], &mut child) > N::ZERO {
+                self.skip(1, left - 1);
+            } else {
+                let at = [0, 1, 2].map(|axis| 2 * cube[axis] + place[axis]);
+                self.visit(&child, at, left - 1);
+            }
             k += 1;
+            if self.passes_over(8 - k as u32, net, left) {
+                return;
+            }
         }
     }
 }
 
 fn record<N: Held>(n: &[[i64; 3]; 8], depth: u32) -> Record {
     let net: Net<N> = coefficients(n);
+    if lowest(&net) == 0 {
+        return valid(0, 1);
+    }
     let mut opened = 0;
     let mut level = 0;
     loop {

@@ -6,8 +6,8 @@
 //! coefficients of a cube are fitted to 27 samples.  Nothing is cut, nothing is taken
 //! from a table, and all arithmetic is on `i128`.  To depth `EVERY_CUBE` every cube of
 //! every level is looked at (`every_cube`); beyond, those that are due (`walk`).  The
-//! lot files of document 02 are read and written in `lot`, and the slip is printed in
-//! `slip`.
+//! children of 27 coefficients alone are in `eighths`.  The lot files of document 02 are
+//! read and written in `lot`, and the slip is printed in `slip`.
 
 #![deny(warnings)]
 #![forbid(unsafe_code)]
@@ -16,6 +16,7 @@
 
 use std::sync::LazyLock;
 
+pub mod eighths;
 mod every_cube;
 pub mod lot;
 pub mod slip;
@@ -93,7 +94,7 @@ fn middle_of(corners: &[usize]) -> [usize; 3] {
 }
 
 /// Places of the 27 coefficients on the 3 by 3 by 3 net, in 01's numbering.
-fn places() -> [[usize; 3]; 27] {
+pub fn places() -> [[usize; 3]; 27] {
     let mut places = [[1; 3]; 27]; // 27: the centre
     for n in 1..=8 {
         places[n - 1] = middle_of(&[n]);
@@ -221,7 +222,7 @@ fn coefficients_from(samples: Net) -> [i128; 27] {
 
 /// The 27 coefficients of the level-m cube at `at`, in 01's numbering.  Exact whenever
 /// 64 times each fits 128 bits.
-fn coefficients(points: &[i64; 24], m: u32, at: [u32; 3]) -> [i128; 27] {
+pub fn coefficients(points: &[i64; 24], m: u32, at: [u32; 3]) -> [i128; 27] {
     let low = at.map(|number| 2 * i128::from(number));
     let block = Grid::block(points, m + 1, low, 3);
     coefficients_from(block.on_the_cube([0; 3]))

@@ -313,43 +313,105 @@ fn half_of_row([p, q, r]: [i128; 3], upper: bool) -> [i128; 3] {
     }
 }
 
+/// The child of a parent's 27 coefficients that stands at `place`, by halves in xi, eta
+/// and zeta.
+fn cut(parent: &[i128; 27], place: [u32; 3]) -> [i128; 27] {
+    let mut net: Net = [[[0; 3]; 3]; 3];
+    for ([i, j, k], value) in places().into_iter().zip(*parent) {
+        net[i][j][k] = value;
+    }
+    for u in 0..3 {
+        for v in 0..3 {
+            let row = half_of_row([0, 1, 2].map(|i| net[i][u][v]), place[0] == 1);
+            (0..3).for_each(|i| net[i][u][v] = row[i]);
+        }
+    }
+    for u in 0..3 {
+        for v in 0..3 {
+            let row = half_of_row([0, 1, 2].map(|j| net[u][j][v]), place[1] == 1);
+            (0..3).for_each(|j| net[u][j][v] = row[j]);
+        }
+    }
+    for u in 0..3 {
+        for v in 0..3 {
+            net[u][v] = half_of_row(net[u][v], place[2] == 1);
+        }
+    }
+    places().map(|[i, j, k]| net[i][j][k])
+}
+
 /// "Doing so in xi, eta and zeta makes eight children, numbered as the corners
-/// they touch, each 64 times larger."
+/// they touch, each 64 times larger."  Sampled from the element, and from the parent's
+/// coefficients alone.
 #[test]
 fn children_are_cuts_of_their_parent() {
     let mut shaker = Shaker::new(14);
-    for _ in 0..100 {
-        let points = shaker.element();
-        for (m, at) in [(0u32, [0; 3]), (1, [0, 1, 1]), (2, [3, 0, 2])] {
+    for turn in 0..100 {
+        let times = [1, 256][turn % 2];
+        let points = shaker.element().map(|x| x * times);
+        for (m, at) in [(0u32, [0; 3]), (1, [0, 1, 1]), (2, [3, 0, 2]), (7, [85, 42, 127])] {
             let parent = coefficients(&points, m, at);
+            let from_parent = eighths::children(&parent);
             for n in 1..=8 {
                 let place = CORNERS[n - 1];
-                let mut net: Net = [[[0; 3]; 3]; 3];
-                for ([i, j, k], value) in places().into_iter().zip(parent) {
-                    net[i][j][k] = value;
-                }
-                for u in 0..3 {
-                    for v in 0..3 {
-                        let row = half_of_row([0, 1, 2].map(|i| net[i][u][v]), place[0] == 1);
-                        (0..3).for_each(|i| net[i][u][v] = row[i]);
-                    }
-                }
-                for u in 0..3 {
-                    for v in 0..3 {
-                        let row = half_of_row([0, 1, 2].map(|j| net[u][j][v]), place[1] == 1);
-                        (0..3).for_each(|j| net[u][j][v] = row[j]);
-                    }
-                }
-                for u in 0..3 {
-                    for v in 0..3 {
-                        net[u][v] = half_of_row(net[u][v], place[2] == 1);
-                    }
-                }
                 let child = [0, 1, 2].map(|axis| 2 * at[axis] + place[axis]);
-                let expected = places().map(|[i, j, k]| net[i][j][k]);
+                let expected = cut(&parent, place);
                 assert_eq!(coefficients(&points, m + 1, child), expected);
+                assert_eq!(from_parent[n - 1], expected);
             }
         }
+    }
+}
+
+/// Of any coefficients, also of the largest.
+#[test]
+fn children_of_any_coefficients() {
+    let mut shaker = Shaker::new(16);
+    let largest = eighths::LARGEST;
+    for x in [0, 1, -1, 1 << 64, -(1 << 64) - 1, largest, -largest] {
+        assert_eq!(eighths::children(&[x; 27]), [[64 * x; 27]; 8]);
+    }
+    let ends = [-largest, 1 - largest, -1, 0, largest - 1, largest];
+    for turn in 0..300 {
+        let parent = [0; 27].map(|_: i128| {
+            let any = i128::from(shaker.draw()) << 64 | i128::from(shaker.draw());
+            match turn % 3 {
+                0 => ends[shaker.between(0, 5) as usize],
+                1 => [largest, -largest][shaker.between(0, 1) as usize],
+                _ => (any % (largest + 1)) >> shaker.between(0, 100),
+            }
+        });
+        let children = eighths::children(&parent);
+        for (child, place) in children.iter().zip(CORNERS) {
+            assert_eq!(*child, cut(&parent, place));
+        }
+    }
+}
+
+#[test]
+#[should_panic(expected = "past the reach")]
+fn children_past_the_reach() {
+    let mut parent = [0; 27];
+    parent[13] = -eighths::LARGEST - 1;
+    eighths::children(&parent);
+}
+
+/// "its least coefficient and the lowest number that holds it".
+#[test]
+fn the_least_of_27() {
+    for x in [0, 1, -1, i128::MIN, i128::MAX] {
+        assert_eq!(eighths::least(&[x; 27]), (x, 1));
+    }
+    for number in 1..=27 {
+        let mut held: [i128; 27] = std::array::from_fn(|at| at as i128 - 5);
+        held[number - 1] = -6;
+        assert_eq!(eighths::least(&held), (-6, number));
+        held[26] = -6;
+        assert_eq!(eighths::least(&held), (-6, number));
+        held[number / 2] = -6;
+        assert_eq!(eighths::least(&held), (-6, number / 2 + 1));
+        held[26] = i128::MIN;
+        assert_eq!(eighths::least(&held), (i128::MIN, 27));
     }
 }
 

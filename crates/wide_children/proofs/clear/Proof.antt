@@ -1,13 +1,18 @@
--- `wide_children::clear` meets its contract: by the lowest number of the half, and of the quarter. Assumes nothing.
+-- `wide_children::clear` meets its contract: by the lowest number of the half and of the quarter, and by the least of the child. Assumes nothing.
 use mathlib.Core.Path.{sym, _∙_, ap, subst}
 use native.Mathlib.Omega.{arith}
+use lib.IntN.{ℤ, pos}
+use lib.Signed.{leZ}
 use denote.Ref.{now}
 use borrow.Author.Tests.{eqb-false}
 use Rattle.definitions.specs.Jacobian.{side}
 use Rattle.definitions.specs.Subdivision.{halve}
+use Rattle.definitions.specs.Eighths.{Eighth}
 use Rattle.expansion_theory.specs.Control.{Cuttable}
-use Rattle.search_theory.specs.Children.{half-length, quarter-length, run-four, run-two, run-none, lowest-clear, cut-whole, cut-half}
-use Rattle.wide_array.specs.Values.{values}
+use Rattle.verdict_theory.specs.Clear.{childControl}
+use Rattle.search_theory.specs.Children.{half-length, quarter-length, run-four, run-two, run-one, run-none, lowest-clear, child-length, cut-whole, cut-half, cut-quarter}
+use Rattle.search_theory.specs.Eighths.{least-low, least-clear, eighth-made}
+use Rattle.wide_array.specs.Values.{values, values-length}
 use Rattle.wide_rows.specs.Word.{largest}
 use borrow.Author.Needs.{needs}
 use Rattle.wide_children.proofs.clear.Statement.{statement}
@@ -21,7 +26,7 @@ lowest-requires c κs = search needs
 
 returns : tie.Need-returns
 returns c = let s = c .before .before .before .before .before .before in let g = values (now (s .args .g)) in let k = s .args .k in let half = c .before .before .before .before .half-at in
-    (run-four g k (s .pre .0 .1) _ _ (c .before .before .before .if1 .taken) (half .ensures .0) (s .pre .0 .2 .quarter-sized) (lowest-clear _ (half-length g k _ (half .ensures .0)) (sym (c .before .lowest .ensures .0) ∙ c .if2 .taken)), (half .ensures .1, s .pre .1 .1))
+    (run-four g k (s .pre .0 .1) _ _ _ (c .before .before .before .if1 .taken) (half .ensures .0) (s .pre .0 .2 .quarter-sized) (values-length (now (s .args .out))) (lowest-clear _ (half-length g k _ (half .ensures .0)) (sym (c .before .lowest .ensures .0) ∙ c .if2 .taken)), (half .ensures .1, s .pre .1 .1, s .pre .1 .2))
 
 half-at-requires-2 : tie.Need-half-at-requires-2
 half-at-requires-2 c κs = let s = c .before .before .before .before .before in let g = values (now (s .args .g)) in let k = s .args .k in let half = c .before .before .before .half-at in let ready = s .pre .0 .2 in
@@ -32,15 +37,22 @@ lowest-requires-2 c κs = search needs
 
 returns-2 : tie.Need-returns-2
 returns-2 c = let s = c .before .before .before .before .before .before .before .before .before .before in let g = values (now (s .args .g)) in let k = s .args .k in let half = c .before .before .before .before .before .before .before .before .half-at in let made = c .before .before .before .before .half-at2 in let quarter = made .ensures .0 ∙ ap (halve 1 (side 1 k)) (half .ensures .0) in
-    (run-two g k (s .pre .0 .1) _ _ (c .before .before .before .if3 .taken) (half .ensures .0) quarter (lowest-clear _ (quarter-length g k _ quarter) (sym (c .before .lowest2 .ensures .0) ∙ c .if4 .taken)), (half .ensures .1, made .ensures .1))
+    (run-two g k (s .pre .0 .1) _ _ _ (c .before .before .before .if3 .taken) (half .ensures .0) quarter (values-length (now (s .args .out))) (lowest-clear _ (quarter-length g k _ quarter) (sym (c .before .lowest2 .ensures .0) ∙ c .if4 .taken)), (half .ensures .1, made .ensures .1, s .pre .1 .2))
+
+eighth-requires : tie.Need-eighth-requires
+eighth-requires c κs = let s = c .before .before .before .before .before .before .before .before .before in let g = values (now (s .args .g)) in let k = s .args .k in
+    (subst (Cuttable largest) (sym (c .before .before .before .half-at2 .ensures .0 ∙ ap (halve 1 (side 1 k)) (c .before .before .before .before .before .before .before .half-at .ensures .0))) (cut-quarter largest g (s .pre .0 .0) k), s .pre .1 .2)
+
+at-most-zero-requires : tie.Need-at-most-zero-requires
+at-most-zero-requires c κs = search needs
 
 returns-3 : tie.Need-returns-3
-returns-3 c = let s = c .before .before .before .before .before .before .before .before .before .before in let g = values (now (s .args .g)) in let k = s .args .k in let half = c .before .before .before .before .before .before .before .before .half-at in let made = c .before .before .before .before .half-at2 in
-    (run-none g k (s .pre .0 .1) _ _ (half .ensures .0) (made .ensures .0 ∙ ap (halve 1 (side 1 k)) (half .ensures .0)), (half .ensures .1, made .ensures .1))
+returns-3 c = let s = c .before .before .before .before .before .before .before .before .before .before .before .before .before in let g = values (now (s .args .g)) in let k = s .args .k in let half = c .before .before .before .before .before .before .before .before .before .before .before .half-at in let made = c .before .before .before .before .before .before .before .half-at2 in let quarter = made .ensures .0 ∙ ap (halve 1 (side 1 k)) (half .ensures .0) in let child = c .before .before .before .eighth in let answer = child .ensures .0 ∙ eighth-made g k _ quarter in
+    (run-none g k (s .pre .0 .1) _ _ _ (half .ensures .0) quarter (ap (λ (e : Eighth). e .control) answer) (least-low (childControl g k) (child-length g k) (sym (ap (λ (z : ℤ). leZ z (pos 0)) (ap (λ (e : Eighth). e .least) answer)) ∙ sym (c .before .at-most-zero .ensures) ∙ c .if5 .taken)), (half .ensures .1, made .ensures .1, child .ensures .1))
 
 returns-4 : tie.Need-returns-4
-returns-4 c = let s = c .before .before .before .before .before .before .before in let g = values (now (s .args .g)) in let k = s .args .k in let half = c .before .before .before .before .before .half-at in let made = c .before .half-at2 in
-    (run-none g k (s .pre .0 .1) _ _ (half .ensures .0) (made .ensures .0 ∙ ap (halve 1 (side 1 k)) (half .ensures .0)), (half .ensures .1, made .ensures .1))
+returns-4 c = let s = c .before .before .before .before .before .before .before .before .before .before .before .before .before in let g = values (now (s .args .g)) in let k = s .args .k in let half = c .before .before .before .before .before .before .before .before .before .before .before .half-at in let made = c .before .before .before .before .before .before .before .half-at2 in let quarter = made .ensures .0 ∙ ap (halve 1 (side 1 k)) (half .ensures .0) in let child = c .before .before .before .eighth in let answer = child .ensures .0 ∙ eighth-made g k _ quarter in
+    (run-one g k (s .pre .0 .1) _ _ _ (half .ensures .0) quarter (ap (λ (e : Eighth). e .control) answer) (least-clear (childControl g k) (child-length g k) (sym (ap (λ (z : ℤ). leZ z (pos 0)) (ap (λ (e : Eighth). e .least) answer)) ∙ sym (c .before .at-most-zero .ensures) ∙ c .if5 .left)), (half .ensures .1, made .ensures .1, child .ensures .1))
 
 pub clear-spec : {M : Type 1} → statement M
 clear-spec =
@@ -52,5 +64,7 @@ clear-spec =
     half-at-requires-2
     lowest-requires-2
     returns-2
+    eighth-requires
+    at-most-zero-requires
     returns-3
     returns-4)

@@ -5,14 +5,12 @@ use native.Mathlib.Omega.{arith}
 use lib.ListN.{length}
 use denote.Ref.{now}
 use borrow.Author.Needs.{needs}
-use Rattle.definitions.specs.Subdivision.{halve, Cell}
+use Rattle.definitions.specs.Subdivision.{Cell}
 use Rattle.verdict_theory.specs.Search.{Pass, visit as visited}
-use Rattle.verdict_theory.specs.Clear.{childControl}
-use Rattle.expansion_theory.specs.Control.{Cuttable}
 use Rattle.search_theory.specs.Meaning.{cellOf, Room}
 use Rattle.search_pass.specs.Meaning.{passWords}
-use Rattle.search_theory.specs.Children.{Ready, Run, ready-first, after-some, child-made, cut-quarter, cut-small, grid-doubled, child-room, child-cell}
-use Rattle.search_theory.specs.Visit.{visit-ended, visit-none, visit-last, over, over-next, over-clear, over-ended, visit-over, one-held, skip-held, next-held}
+use Rattle.search_theory.specs.Children.{Ready, after, ready-first, after-some, cut-small, grid-doubled, child-room, child-cell}
+use Rattle.search_theory.specs.Visit.{visit-last, over, rest-of, over-next, over-clear, visit-over, one-held, eight-held, skip-held, next-held}
 use Rattle.wide_array.specs.Values.{values, values-length, value-read}
 use Rattle.wide_rows.specs.Word.{largest}
 use borrow.Fn.Kinds.{In}
@@ -22,9 +20,8 @@ use Rattle.wide_search.proofs.visit.Kinds as visit-kinds
 use Rattle.wide_search.proofs.+visit.Lts-visit as visit-lts
 use Rattle.cell_corners.proofs.side.Reads as side-reads
 use Rattle.wide_children.proofs.clear.Reads as clear-reads
-use Rattle.search_pass.proofs.ended.Reads as ended-reads
-use Rattle.wide_subdivision.proofs.halve.Reads as halve-reads
 use Rattle.wide_lowest.proofs.lowest.Reads as lowest-reads
+use Rattle.wide_search.proofs.rest_known.Reads as rest-known-reads
 use Rattle.wide_array.proofs.at.Reads as at-reads
 use Rattle.search_opening.proofs.open_low.Reads as open-low-reads
 use Rattle.search_opening.proofs.skip.Reads as skip-reads
@@ -41,66 +38,57 @@ abbrev visit-below : ℕ → In 2 visit-kinds.ps
 visit-below t = and 2 visit-kinds.ps (falls 2 visit-kinds.ps _<_ μ-visit t) visit.Pre
 
 abbrev visit-Inv-loop : visit-lts.InvT-loop
-visit-Inv-loop g a b c left pass₀ n half₀ quarter₀ child₀ k₀ pass half quarter child k = (k ≤ 8) × (k < 8 → Ready (values g) k (values half) (values quarter)) × ((length half ≡ 54) × (length quarter ≡ 54) × (length child ≡ 54)) × ((p : Pass) → pass₀ ≡ passWords p → pass ≡ passWords (over (cellOf a b c (values g)) p (left - 1) k))
+visit-Inv-loop g a b c left pass₀ half₀ quarter₀ child₀ k₀ pass half quarter child k = (k ≤ 8) × (k < 8 → Ready (values g) k (values half) (values quarter)) × ((length half ≡ 54) × (length quarter ≡ 54) × (length child ≡ 54)) × ((p : Pass) → pass₀ ≡ passWords p → pass ≡ passWords (over (cellOf a b c (values g)) p (left - 1) k))
 
 abbrev visit-μ-loop : visit-lts.MeasureT-loop
-visit-μ-loop g a b c left pass₀ n half₀ quarter₀ child₀ k₀ pass half quarter child k = 8 - k
+visit-μ-loop g a b c left pass₀ half₀ quarter₀ child₀ k₀ pass half quarter child k = 8 - k
 
 -- what the calls ask and tell, in the order of the code
 abbrev known : ℕ → visit-lts.Claims
-known t = (ended-reads.Asked, ended-reads.Learnt, lowest-reads.Asked, lowest-reads.Learnt, skip-reads.Asked, skip-reads.Learnt, at-reads.Asked, at-reads.Learnt, open-low-reads.Asked, open-low-reads.Learnt, clear-reads.Asked, clear-reads.Learnt, side-reads.Asked, side-reads.Learnt, halve-reads.Asked, halve-reads.Learnt, visit-below t, visit.Post)
+known t = (lowest-reads.Asked, lowest-reads.Learnt, at-reads.Asked, at-reads.Learnt, open-low-reads.Asked, open-low-reads.Learnt, rest-known-reads.Asked, rest-known-reads.Learnt, clear-reads.Asked, clear-reads.Learnt, side-reads.Asked, side-reads.Learnt, visit-below t, visit.Post, skip-reads.Asked, skip-reads.Learnt)
 
-visit-ended-requires : (t : ℕ) → visit-lts.Need-ended-requires (known t) (visit-at t) visit.Post visit-Inv-loop visit-μ-loop
-visit-ended-requires t c κs = tt
-
-visit-returns : (t : ℕ) → visit-lts.Need-returns (known t) (visit-at t) visit.Post visit-Inv-loop visit-μ-loop
-visit-returns t c p e = let s = c .before .before .before in e ∙ ap passWords (visit-ended (cellOf (s .args .a) (s .args .b) (s .args .c) (values (now (s .args .g)))) p (s .args .left) (sym (c .before .ended .ensures p e) ∙ c .if1 .taken))
+-- a lowest that is not 0 is above it
+some : {n m : ℕ} → (m ≡ 0 → ⊥) → n ≡ m → 0 < n
+some {n} h e = let f : n ≡ 0 → ⊥ = λ z. h (sym e ∙ z) in omega (arith, f)
 
 visit-lowest-requires : (t : ℕ) → visit-lts.Need-lowest-requires (known t) (visit-at t) visit.Post visit-Inv-loop visit-μ-loop
 visit-lowest-requires t c κs = tt
 
-visit-skip-requires : (t : ℕ) → visit-lts.Need-skip-requires (known t) (visit-at t) visit.Post visit-Inv-loop visit-μ-loop
-visit-skip-requires t c κs = let s = c .before .before .before .before .before .before in one-held passWords (s .args .left) (now (s .args .pass)) (s .pre .1 .1)
-
-visit-returns-2 : (t : ℕ) → visit-lts.Need-returns-2 (known t) (visit-at t) visit.Post visit-Inv-loop visit-μ-loop
-visit-returns-2 t c p e = let s = c .before .before .before .before .before .before .before in let going = sym (c .before .before .before .before .before .ended .ensures p e) ∙ c .before .before .before .before .if1 .left in
-    c .skip .ensures p e ∙ ap passWords (visit-none (cellOf (s .args .a) (s .args .b) (s .args .c) (values (now (s .args .g)))) p going (s .args .left) (s .pre .1 .0 .small .control .sized) (sym (c .before .before .before .lowest .ensures .0) ∙ c .before .before .if2 .taken))
-
 visit-sub-at : (t : ℕ) → visit-lts.Need-sub-at (known t) (visit-at t) visit.Post visit-Inv-loop visit-μ-loop
-visit-sub-at t c = let some = c .before .if2 .left in omega arith
+visit-sub-at t c = omega (arith, some (c .before .before .pre .1 .2) (c .lowest .ensures .0))
 
 visit-at-requires : (t : ℕ) → visit-lts.Need-at-requires (known t) (visit-at t) visit.Post visit-Inv-loop visit-μ-loop
-visit-at-requires t c κs = let some = c .before .if2 .left in omega (arith, c .before .before .lowest .ensures .1)
+visit-at-requires t c κs = omega (arith, some (c .before .before .pre .1 .2) (c .lowest .ensures .0), c .lowest .ensures .1)
 
 visit-open-low-requires : (t : ℕ) → visit-lts.Need-open-low-requires (known t) (visit-at t) visit.Post visit-Inv-loop visit-μ-loop
-visit-open-low-requires t c κs = let s = c .before .before .before .before .before .before .before .before in let n = c .before .before .before .before .lowest in let some = c .before .before .before .if2 .left in
-    let room = subst (Room largest (values (now (s .args .g))) (s .args .a) (s .args .b) (s .args .c)) (c .before .before .if3 .taken) (s .pre .1 .0) in
-    (room .a-grid, room .b-grid, room .c-grid, one-held passWords (s .args .left) (now (s .args .pass)) (s .pre .1 .1), omega arith, n .ensures .1)
+visit-open-low-requires t c κs = let s = c .before .before .before .before in let n = c .before .before .lowest in let room = subst (Room largest (values (now (s .args .g))) (s .args .a) (s .args .b) (s .args .c)) (c .before .before .before .if1 .taken) (s .pre .1 .0) in
+    (room .a-grid, room .b-grid, room .c-grid, one-held passWords (s .args .left) (now (s .args .pass)) (s .pre .1 .1), some (s .pre .1 .2) (n .ensures .0), n .ensures .1)
 
-visit-returns-3 : (t : ℕ) → visit-lts.Need-returns-3 (known t) (visit-at t) visit.Post visit-Inv-loop visit-μ-loop
-visit-returns-3 t c p e = let s = c .before .before .before .before .before .before .before .before .before in let n = c .before .before .before .before .before .lowest in let some = c .before .before .before .before .if2 .left in
-    let going = sym (c .before .before .before .before .before .before .before .ended .ensures p e) ∙ c .before .before .before .before .before .before .if1 .left in
-    c .open-low .ensures (values (now (s .args .g))) (n .ensures .0) (value-read (now (s .args .g)) (n .result - 1) (omega (arith, n .ensures .1)) (c .before .before .at .ensures)) p e going
-    ∙ ap passWords (visit-last (cellOf (s .args .a) (s .args .b) (s .args .c) (values (now (s .args .g)))) p going (s .args .left) (c .before .before .before .if3 .taken))
+visit-returns : (t : ℕ) → visit-lts.Need-returns (known t) (visit-at t) visit.Post visit-Inv-loop visit-μ-loop
+visit-returns t c p e going = let s = c .before .before .before .before .before in let n = c .before .before .before .lowest in let value = value-read (now (s .args .g)) (n .result - 1) (omega (arith, some (s .pre .1 .2) (n .ensures .0), n .ensures .1)) (c .before .before .at .ensures) in
+    c .open-low .ensures (values (now (s .args .g))) (n .ensures .0) value p e going
+    ∙ ap passWords (visit-last (cellOf (s .args .a) (s .args .b) (s .args .c) (values (now (s .args .g)))) p (s .args .left) (c .before .before .before .before .if1 .taken))
+
+visit-rest-known-requires : (t : ℕ) → visit-lts.Need-rest-known-requires (known t) (visit-at t) visit.Post visit-Inv-loop visit-μ-loop
+visit-rest-known-requires t c κs = let s = c .before .before in (cut-small largest (values (now (s .args .g))) (s .args .left) (s .pre .1 .0 .small) (c .before .if1 .left), omega arith, eight-held passWords (s .args .left) (c .before .if1 .left) (now (s .args .pass)) (s .pre .1 .1))
+
+visit-returns-2 : (t : ℕ) → visit-lts.Need-returns-2 (known t) (visit-at t) visit.Post visit-Inv-loop visit-μ-loop
+visit-returns-2 t c p e going = let s = c .before .before .before .before in let cell = cellOf (s .args .a) (s .args .b) (s .args .c) (values (now (s .args .g))) in let left = s .args .left in
+    rest-of passWords cell p left 0 zero-le _ _ (c .before .rest-known .ensures p e) .settled (c .if2 .taken) ∙ ap passWords (visit-over cell p left going (c .before .before .before .if1 .left) (s .pre .1 .2))
 
 visit-loop-holds : (t : ℕ) → visit-lts.Need-loop-holds (known t) (visit-at t) visit.Post visit-Inv-loop visit-μ-loop
-visit-loop-holds t c = (zero-le, λ h. ready-first (values (now (c .before .before .before .before .before .before .args .g))) _ _ (values-length _) (values-length _), (refl, refl, refl), λ p e. e)
+visit-loop-holds t c = (zero-le, λ h. ready-first (values (c .before .before .before .before .args .g .now)) _ _ (values-length _) (values-length _), (refl, refl, refl), λ p e. e)
 
--- the cell is cut
-cut-at : (t : ℕ) (c : visit-lts.Else3 (known t) (visit-at t) visit.Post visit-Inv-loop visit-μ-loop) (p : Pass) → now (c .before .before .before .before .before .before .args .pass) ≡ passWords p
-    → over (cellOf (c .before .before .before .before .before .before .args .a) (c .before .before .before .before .before .before .args .b) (c .before .before .before .before .before .before .args .c) (values (now (c .before .before .before .before .before .before .args .g)))) p (c .before .before .before .before .before .before .args .left - 1) 8 ≡ visited (c .before .before .before .before .before .before .args .left) (cellOf (c .before .before .before .before .before .before .args .a) (c .before .before .before .before .before .before .args .b) (c .before .before .before .before .before .before .args .c) (values (now (c .before .before .before .before .before .before .args .g)))) p
-cut-at t c p e = let s = c .before .before .before .before .before .before in
-    visit-over (cellOf (s .args .a) (s .args .b) (s .args .c) (values (now (s .args .g)))) p (s .args .left) (sym (c .before .before .before .before .ended .ensures p e) ∙ c .before .before .before .if1 .left) (c .if3 .left) (λ z. c .before .if2 .left (c .before .before .lowest .ensures .0 ∙ z))
+visit-rest-known-requires-2 : (t : ℕ) → visit-lts.Need-rest-known-requires-2 (known t) (visit-at t) visit.Post visit-Inv-loop visit-μ-loop
+visit-rest-known-requires-2 t c κs = let s = c .before .before .before .before .before .before .before in let cell = cellOf (s .args .a) (s .args .b) (s .args .c) (values (now (s .args .g))) in let left = s .args .left in let l = c .before .before .loop in let held = s .pre .1 .1 in
+    (cut-small largest (values (now (s .args .g))) left (s .pre .1 .0 .small) (c .before .before .before .before .before .before .if1 .left), l .inv .0, skip-held passWords cell left (c .before .before .before .before .before .before .if1 .left) (now (s .args .pass)) held (l .k) (8 - l .k) (omega (arith, l .inv .0)) _ (l .inv .3 (held .pass) (rest-of passWords cell (held .pass) left 0 zero-le _ _ (c .before .before .before .before .rest-known .ensures (held .pass) (held .is)) .same (c .before .before .before .if2 .left))))
 
-visit-ended-requires-2 : (t : ℕ) → visit-lts.Need-ended-requires-2 (known t) (visit-at t) visit.Post visit-Inv-loop visit-μ-loop
-visit-ended-requires-2 t c κs = tt
-
-visit-returns-4 : (t : ℕ) → visit-lts.Need-returns-4 (known t) (visit-at t) visit.Post visit-Inv-loop visit-μ-loop
-visit-returns-4 t c p e = let s = c .before .before .before .before .before .before .before .before .before .before .before in let l = c .before .before .before .before .loop in let cell = cellOf (s .args .a) (s .args .b) (s .args .c) (values (now (s .args .g))) in let seen = l .inv .3 p e in
-    seen ∙ ap passWords (over-ended cell p (s .args .left - 1) (l .k) (l .inv .0) (sym (c .before .ended2 .ensures (over cell p (s .args .left - 1) (l .k)) seen) ∙ c .if4 .taken) ∙ cut-at t (c .before .before .before .before .before) p e)
+visit-returns-3 : (t : ℕ) → visit-lts.Need-returns-3 (known t) (visit-at t) visit.Post visit-Inv-loop visit-μ-loop
+visit-returns-3 t c p e going = let s = c .before .before .before .before .before .before .before .before .before in let cell = cellOf (s .args .a) (s .args .b) (s .args .c) (values (now (s .args .g))) in let left = s .args .left in let l = c .before .before .before .before .loop in
+    rest-of passWords cell p left (l .k) (l .inv .0) _ _ (c .before .rest-known2 .ensures (over cell p (left - 1) (l .k)) (l .inv .3 p (rest-of passWords cell p left 0 zero-le _ _ (c .before .before .before .before .before .before .rest-known .ensures p e) .same (c .before .before .before .before .before .if2 .left)))) .settled (c .if3 .taken) ∙ ap passWords (visit-over cell p left going (c .before .before .before .before .before .before .before .before .if1 .left) (s .pre .1 .2))
 
 visit-clear-requires : (t : ℕ) → visit-lts.Need-clear-requires (known t) (visit-at t) visit.Post visit-Inv-loop visit-μ-loop
-visit-clear-requires t c κs = let s = c .before .before .before .before .before .before .before .before .before .before .before .before .before in let here = c .before .before .before .before .before .loop-test .taken in let sized = c .before .before .before .before .before .before .loop .inv .2 in ((cut-small largest (values (now (s .args .g))) (s .args .left) (s .pre .1 .0 .small) (c .before .before .before .before .before .before .before .if3 .left), here, c .before .before .before .before .before .before .loop .inv .1 here), (sized .0, sized .1))
+visit-clear-requires t c κs = let s = c .before .before .before .before .before .before .before .before .before .before .before .before in let here = c .before .before .before .before .before .before .loop-test .taken in let l = c .before .before .before .before .before .before .before .loop in ((cut-small largest (values (now (s .args .g))) (s .args .left) (s .pre .1 .0 .small) (c .before .before .before .before .before .before .before .before .before .before .before .if1 .left), here, l .inv .1 here), l .inv .2)
 
 visit-side-requires : (t : ℕ) → visit-lts.Need-side-requires (known t) (visit-at t) visit.Post visit-Inv-loop visit-μ-loop
 visit-side-requires t c κs = tt
@@ -111,21 +99,12 @@ visit-side-requires-2 t c κs = tt
 visit-side-requires-3 : (t : ℕ) → visit-lts.Need-side-requires-3 (known t) (visit-at t) visit.Post visit-Inv-loop visit-μ-loop
 visit-side-requires-3 t c κs = tt
 
-visit-halve-requires : (t : ℕ) → visit-lts.Need-halve-requires (known t) (visit-at t) visit.Post visit-Inv-loop visit-μ-loop
-visit-halve-requires t c κs = let s = c .before .before .before .before .before .before .before .before .before .before .before .before .before .before .before .before .before .before .before .before in let g = values (now (s .args .g)) in let k = c .before .before .before .before .before .before .before .before .before .before .before .before .before .loop .k in
-    ((subst (Cuttable largest) (sym (c .before .before .before .before .before .before .clear .ensures .0 .quarter-is (c .before .before .before .before .before .if5 .taken))) (cut-quarter largest g (cut-small largest g (s .args .left) (s .pre .1 .0 .small) (c .before .before .before .before .before .before .before .before .before .before .before .before .before .before .if3 .left)) k), omega arith), c .before .before .before .before .before .before .before .before .before .before .before .before .before .loop .inv .2 .2)
-
--- child k is made of its quarter
-made-at : (t : ℕ) (c : visit-lts.After-child2 (known t) (visit-at t) visit.Post visit-Inv-loop visit-μ-loop) → values (c .before .halve .last .1 .1 .1 .0) ≡ childControl (values (now (c .before .before .before .before .before .before .before .before .before .before .before .before .before .before .before .before .before .before .before .before .before .before .args .g))) (c .before .before .before .before .before .before .before .before .before .before .before .before .before .before .before .loop .k)
-made-at t c = let quarter = values (c .before .before .before .before .before .before .before .before .clear .last .1 .1 .1 .0) in
-    child-made (values (now (c .before .before .before .before .before .before .before .before .before .before .before .before .before .before .before .before .before .before .before .before .before .before .args .g))) (c .before .before .before .before .before .before .before .before .before .before .before .before .before .before .before .loop .k) quarter _ (c .before .before .before .before .before .before .before .before .clear .ensures .0 .quarter-is (c .before .before .before .before .before .before .before .if5 .taken)) (c .before .halve .ensures .0 ∙ ap (λ (h : ℕ). halve 0 h quarter) (c .before .before .before .before .before .before .side .ensures .0))
-
--- its grid numbers fit
-fits-at : (t : ℕ) (c : visit-lts.After-child2 (known t) (visit-at t) visit.Post visit-Inv-loop visit-μ-loop) → (2 * c .before .before .before .before .before .before .before .before .before .before .before .before .before .before .before .before .before .before .before .before .before .before .args .a + c .before .before .before .before .before .before .side .result < 2 ^ 32) × (2 * c .before .before .before .before .before .before .before .before .before .before .before .before .before .before .before .before .before .before .before .before .before .before .args .b + c .before .before .before .before .before .side2 .result < 2 ^ 32) × (2 * c .before .before .before .before .before .before .before .before .before .before .before .before .before .before .before .before .before .before .before .before .before .before .args .c + c .before .before .before .before .side3 .result < 2 ^ 32)
-fits-at t c = let s = c .before .before .before .before .before .before .before .before .before .before .before .before .before .before .before .before .before .before .before .before .before .before in let room = s .pre .1 .0 in let some = c .before .before .before .before .before .before .before .before .before .before .before .before .before .before .before .before .if3 .left in (
-  omega (arith, grid-doubled (s .args .a) (s .args .left) (room .a-grid) some, c .before .before .before .before .before .before .side .ensures .1),
-  omega (arith, grid-doubled (s .args .b) (s .args .left) (room .b-grid) some, c .before .before .before .before .before .side2 .ensures .1),
-  omega (arith, grid-doubled (s .args .c) (s .args .left) (room .c-grid) some, c .before .before .before .before .side3 .ensures .1),
+-- the child's grid numbers fit
+fits-at : (t : ℕ) (c : visit-lts.After-child2 (known t) (visit-at t) visit.Post visit-Inv-loop visit-μ-loop) → (2 * c .before .before .before .before .before .before .before .before .before .before .before .before .before .before .before .before .before .before .args .a + c .before .before .before .side .result < 2 ^ 32) × (2 * c .before .before .before .before .before .before .before .before .before .before .before .before .before .before .before .before .before .before .args .b + c .before .before .side2 .result < 2 ^ 32) × (2 * c .before .before .before .before .before .before .before .before .before .before .before .before .before .before .before .before .before .before .args .c + c .before .side3 .result < 2 ^ 32)
+fits-at t c = let s = c .before .before .before .before .before .before .before .before .before .before .before .before .before .before .before .before .before .before in let room = s .pre .1 .0 in let some = c .before .before .before .before .before .before .before .before .before .before .before .before .before .before .before .before .before .if1 .left in (
+  omega (arith, grid-doubled (s .args .a) (s .args .left) (room .a-grid) some, c .before .before .before .side .ensures .1),
+  omega (arith, grid-doubled (s .args .b) (s .args .left) (room .b-grid) some, c .before .before .side2 .ensures .1),
+  omega (arith, grid-doubled (s .args .c) (s .args .left) (room .c-grid) some, c .before .side3 .ensures .1),
 )
 
 visit-mul-visit : (t : ℕ) → visit-lts.Need-mul-visit (known t) (visit-at t) visit.Post visit-Inv-loop visit-μ-loop
@@ -147,14 +126,15 @@ visit-add-visit-3 : (t : ℕ) → visit-lts.Need-add-visit-3 (known t) (visit-at
 visit-add-visit-3 t c = omega (arith, fits-at t c .2)
 
 visit-sub-visit : (t : ℕ) → visit-lts.Need-sub-visit (known t) (visit-at t) visit.Post visit-Inv-loop visit-μ-loop
-visit-sub-visit t c = omega (arith, c .before .before .before .before .before .before .before .before .before .before .before .before .before .before .before .before .if3 .left)
+visit-sub-visit t c = omega (arith, c .before .before .before .before .before .before .before .before .before .before .before .before .before .before .before .before .before .if1 .left)
 
 visit-visit-requires : (t : ℕ) → visit-lts.Need-visit-requires (known t) (visit-at t) visit.Post visit-Inv-loop visit-μ-loop
-visit-visit-requires t c κs = let s = c .before .before .before .before .before .before .before .before .before .before .before .before .before .before .before .before .before .before .before .before .before .before .before in let left = s .args .left in let l = c .before .before .before .before .before .before .before .before .before .before .before .before .before .before .before .before .loop in let some = c .before .before .before .before .before .before .before .before .before .before .before .before .before .before .before .before .before .if3 .left in let held = s .pre .1 .1 in (
-  omega (arith, s .pre .0, some),
+visit-visit-requires t c κs = let s = c .before .before .before .before .before .before .before .before .before .before .before .before .before .before .before .before .before .before .before in let cell = cellOf (s .args .a) (s .args .b) (s .args .c) (values (now (s .args .g))) in let left = s .args .left in let l = c .before .before .before .before .before .before .before .before .before .before .before .before .before .before .loop in let held = s .pre .1 .1 in let run = c .before .before .before .before .before .before .clear .ensures .0 in let none = c .before .before .before .before .before .if4 .taken in (
+  omega (arith, s .pre .0, c .before .before .before .before .before .before .before .before .before .before .before .before .before .before .before .before .before .before .if1 .left),
   (
-    child-room largest (values (now (s .args .g))) (s .args .a) (s .args .b) (s .args .c) (l .k) (c .before .before .before .before .before .before .before .side .result) (c .before .before .before .before .before .before .side2 .result) (c .before .before .before .before .before .side3 .result) _ (made-at t (c .before)) (c .before .before .before .before .before .before .before .side .ensures .0) (c .before .before .before .before .before .before .side2 .ensures .0) (c .before .before .before .before .before .side3 .ensures .0) left (s .pre .1 .0) some,
-    next-held passWords (cellOf (s .args .a) (s .args .b) (s .args .c) (values (now (s .args .g)))) left some (now (s .args .pass)) held (l .k) (c .before .before .before .before .before .before .before .before .before .before .before .before .before .before .before .loop-test .taken) _ (l .inv .3 (held .pass) (held .is)),
+    child-room largest (values (now (s .args .g))) (s .args .a) (s .args .b) (s .args .c) (l .k) (c .before .before .before .before .side .result) (c .before .before .before .side2 .result) (c .before .before .side3 .result) _ (run .made-is none) (c .before .before .before .before .side .ensures .0) (c .before .before .before .side2 .ensures .0) (c .before .before .side3 .ensures .0) left (s .pre .1 .0) (c .before .before .before .before .before .before .before .before .before .before .before .before .before .before .before .before .before .before .if1 .left),
+    next-held passWords cell left (c .before .before .before .before .before .before .before .before .before .before .before .before .before .before .before .before .before .before .if1 .left) (now (s .args .pass)) held (l .k) (c .before .before .before .before .before .before .before .before .before .before .before .before .before .loop-test .taken) _ (rest-of passWords cell (held .pass) left (l .k) (l .inv .0) _ _ (c .before .before .before .before .before .before .before .before .before .before .before .rest-known2 .ensures (over cell (held .pass) (left - 1) (l .k)) (l .inv .3 (held .pass) (rest-of passWords cell (held .pass) left 0 zero-le _ _ (c .before .before .before .before .before .before .before .before .before .before .before .before .before .before .before .before .rest-known .ensures (held .pass) (held .is)) .same (c .before .before .before .before .before .before .before .before .before .before .before .before .before .before .before .if2 .left)))) .same (c .before .before .before .before .before .before .before .before .before .before .if3 .left)),
+    run .made-low none,
   ),
 )
 
@@ -165,45 +145,43 @@ visit-loop-less : (t : ℕ) → visit-lts.Need-loop-less (known t) (visit-at t) 
 visit-loop-less t c = search needs
 
 visit-loop-again : (t : ℕ) → visit-lts.Need-loop-again (known t) (visit-at t) visit.Post visit-Inv-loop visit-μ-loop
-visit-loop-again t c = let s = c .before .before .before .before .before .before .before .before .before .before .before .before .before .before .before .before .before .before .before .before .before .before .before .before in let g = values (now (s .args .g)) in let m = s .args .left - 1 in let l = c .before .before .before .before .before .before .before .before .before .before .before .before .before .before .before .before .before .loop in let k = l .k in let cell = cellOf (s .args .a) (s .args .b) (s .args .c) (values (now (s .args .g))) in
-    let quarter = values (c .before .before .before .before .before .before .before .before .before .before .clear .last .1 .1 .1 .0) in
-    let run = subst (λ (n : ℕ). Run g k n (values (c .before .before .before .before .before .before .before .before .before .before .clear .last .1 .1 .0)) quarter) (c .before .before .before .before .before .before .before .before .before .if5 .taken) (c .before .before .before .before .before .before .before .before .before .before .clear .ensures .0) in let sized = c .before .before .before .before .before .before .before .before .before .before .clear .ensures .1 in (
-      omega (arith, c .before .before .before .before .before .before .before .before .before .before .before .before .before .before .before .before .loop-test .taken),
-      λ h. run .next h,
-      (sized .0, sized .1, c .before .before .before .halve .ensures .1),
+visit-loop-again t c = let s = c .before .before .before .before .before .before .before .before .before .before .before .before .before .before .before .before .before .before .before .before in let cell = cellOf (s .args .a) (s .args .b) (s .args .c) (values (now (s .args .g))) in let left = s .args .left in let m = left - 1 in let l = c .before .before .before .before .before .before .before .before .before .before .before .before .before .before .before .loop in let k = l .k in let none = c .before .before .before .before .before .before .if4 .taken in let run = c .before .before .before .before .before .before .before .clear .ensures .0 in
+    let next = subst (λ (n : ℕ). after k n < 8 → Ready (values (now (s .args .g))) (after k n) (values (c .before .before .before .before .before .before .before .clear .last .1 .1 .0)) (values (c .before .before .before .before .before .before .before .clear .last .1 .1 .1 .0))) none (run .next) in (
+      omega arith,
+      next,
+      c .before .before .before .before .before .before .before .clear .ensures .1,
       λ p e.
-          c .visit .ensures (over cell p m k) (l .inv .3 p e)
-          ∙ ap passWords (ap (λ (q : Cell). visited m q (over cell p m k)) (child-cell largest g (s .args .a) (s .args .b) (s .args .c) k (c .before .before .before .before .before .before .before .before .side .result) (c .before .before .before .before .before .before .before .side2 .result) (c .before .before .before .before .before .before .side3 .result) _ (made-at t (c .before .before)) (c .before .before .before .before .before .before .before .before .side .ensures .0) (c .before .before .before .before .before .before .before .side2 .ensures .0) (c .before .before .before .before .before .before .side3 .ensures .0)) ∙ sym (over-next cell p m k)),
+          let before = rest-of passWords cell p left k (l .inv .0) _ _ (c .before .before .before .before .before .before .before .before .before .before .before .before .rest-known2 .ensures (over cell p m k) (l .inv .3 p e)) in
+          c .visit .ensures (over cell p m k) (before .same (c .before .before .before .before .before .before .before .before .before .before .before .if3 .left)) (before .going (c .before .before .before .before .before .before .before .before .before .before .before .if3 .left))
+          ∙ ap passWords (ap (λ (q : Cell). visited m q (over cell p m k)) (child-cell largest (values (now (s .args .g))) (s .args .a) (s .args .b) (s .args .c) k (c .before .before .before .before .before .side .result) (c .before .before .before .before .side2 .result) (c .before .before .before .side3 .result) _ (run .made-is none) (c .before .before .before .before .before .side .ensures .0) (c .before .before .before .before .side2 .ensures .0) (c .before .before .before .side3 .ensures .0)) ∙ sym (over-next cell p m k)),
     )
 
 visit-sub-skip : (t : ℕ) → visit-lts.Need-sub-skip (known t) (visit-at t) visit.Post visit-Inv-loop visit-μ-loop
-visit-sub-skip t c = omega (arith, c .before .before .before .before .before .before .before .before .before .if3 .left)
+visit-sub-skip t c = omega (arith, c .before .before .before .before .before .before .before .before .before .before .before .before .before .if1 .left)
 
-visit-skip-requires-2 : (t : ℕ) → visit-lts.Need-skip-requires-2 (known t) (visit-at t) visit.Post visit-Inv-loop visit-μ-loop
-visit-skip-requires-2 t c κs = let s = c .before .before .before .before .before .before .before .before .before .before .before .before .before .before .before .before in let l = c .before .before .before .before .before .before .before .before .before .loop in let held = s .pre .1 .1 in
-    skip-held passWords (cellOf (s .args .a) (s .args .b) (s .args .c) (values (now (s .args .g)))) (s .args .left) (c .before .before .before .before .before .before .before .before .before .before .if3 .left) (now (s .args .pass)) held (l .k) (c .before .before .clear .result) (c .before .before .clear .ensures .0 .end) _ (l .inv .3 (held .pass) (held .is))
+visit-skip-requires : (t : ℕ) → visit-lts.Need-skip-requires (known t) (visit-at t) visit.Post visit-Inv-loop visit-μ-loop
+visit-skip-requires t c κs = let s = c .before .before .before .before .before .before .before .before .before .before .before .before .before .before .before in let cell = cellOf (s .args .a) (s .args .b) (s .args .c) (values (now (s .args .g))) in let left = s .args .left in let l = c .before .before .before .before .before .before .before .before .before .before .loop in let held = s .pre .1 .1 in
+    skip-held passWords cell left (c .before .before .before .before .before .before .before .before .before .before .before .before .before .before .if1 .left) (now (s .args .pass)) held (l .k) (c .before .before .clear .result) (c .before .before .clear .ensures .0 .end) _ (rest-of passWords cell (held .pass) left (l .k) (l .inv .0) _ _ (c .before .before .before .before .before .before .before .rest-known2 .ensures (over cell (held .pass) (left - 1) (l .k)) (l .inv .3 (held .pass) (rest-of passWords cell (held .pass) left 0 zero-le _ _ (c .before .before .before .before .before .before .before .before .before .before .before .before .rest-known .ensures (held .pass) (held .is)) .same (c .before .before .before .before .before .before .before .before .before .before .before .if2 .left)))) .same (c .before .before .before .before .before .before .if3 .left))
 
 visit-add-k-2 : (t : ℕ) → visit-lts.Need-add-k-2 (known t) (visit-at t) visit.Post visit-Inv-loop visit-μ-loop
 visit-add-k-2 t c = omega (arith, c .before .before .before .clear .ensures .0 .end)
 
 visit-loop-less-2 : (t : ℕ) → visit-lts.Need-loop-less-2 (known t) (visit-at t) visit.Post visit-Inv-loop visit-μ-loop
-visit-loop-less-2 t c = omega (arith, c .before .before .before .before .before .before .before .before .before .loop-test .taken, c .before .before .if5 .left)
+visit-loop-less-2 t c = omega (arith, c .before .before .before .before .before .before .before .before .before .before .loop-test .taken, c .before .before .if4 .left)
 
 visit-loop-again-2 : (t : ℕ) → visit-lts.Need-loop-again-2 (known t) (visit-at t) visit.Post visit-Inv-loop visit-μ-loop
-visit-loop-again-2 t c = let s = c .before .before .before .before .before .before .before .before .before .before .before .before .before .before .before .before .before in let g = values (now (s .args .g)) in let left = s .args .left in let l = c .before .before .before .before .before .before .before .before .before .before .loop in let k = l .k in let cell = cellOf (s .args .a) (s .args .b) (s .args .c) (values (now (s .args .g))) in
-    let run = c .before .before .before .clear .ensures .0 in let sized = c .before .before .before .clear .ensures .1 in let n = c .before .before .before .clear .result in let e = after-some k n (c .before .before .if5 .left) in (
-      run .end,
-      λ h. subst (λ (m : ℕ). Ready g m (values (c .before .before .before .clear .last .1 .1 .0)) (values (c .before .before .before .clear .last .1 .1 .1 .0))) e (run .next (subst (λ (m : ℕ). m < 8) (sym e) h)),
-      (sized .0, sized .1, l .inv .2 .2),
-      λ p e.
-          let seen = l .inv .3 p e in
-          c .skip2 .ensures (over cell p (left - 1) k) seen
-          ∙ sym (ap passWords (over-clear cell p (left - 1) k n (sym (c .before .before .before .before .before .before .before .ended2 .ensures (over cell p (left - 1) k) seen) ∙ c .before .before .before .before .before .before .if4 .left) (run .clears))),
-    )
+visit-loop-again-2 t c = let s = c .before .before .before .before .before .before .before .before .before .before .before .before .before .before .before .before in let cell = cellOf (s .args .a) (s .args .b) (s .args .c) (values (now (s .args .g))) in let left = s .args .left in let l = c .before .before .before .before .before .before .before .before .before .before .before .loop in let k = l .k in let run = c .before .before .before .clear .ensures .0 in let n = c .before .before .before .clear .result in let e = after-some k n (c .before .before .if4 .left) in (
+  run .end,
+  λ h. subst (λ (m : ℕ). Ready (values (now (s .args .g))) m (values (c .before .before .before .clear .last .1 .1 .0)) (values (c .before .before .before .clear .last .1 .1 .1 .0))) e (run .next (subst (λ (m : ℕ). m < 8) (sym e) h)),
+  c .before .before .before .clear .ensures .1,
+  λ p e.
+      let before = rest-of passWords cell p left k (l .inv .0) _ _ (c .before .before .before .before .before .before .before .before .rest-known2 .ensures (over cell p (left - 1) k) (l .inv .3 p e)) in
+      c .skip .ensures (over cell p (left - 1) k) (before .same (c .before .before .before .before .before .before .before .if3 .left)) ∙ sym (ap passWords (over-clear cell p (left - 1) k n (before .going (c .before .before .before .before .before .before .before .if3 .left)) (run .clears))),
+)
 
-visit-returns-5 : (t : ℕ) → visit-lts.Need-returns-5 (known t) (visit-at t) visit.Post visit-Inv-loop visit-μ-loop
-visit-returns-5 t c p e = let s = c .before .before .before .before .before .before .before .before in let l = c .before .loop in let last : l .k ≡ 8 = omega arith in
-    l .inv .3 p e ∙ ap passWords (ap (over (cellOf (s .args .a) (s .args .b) (s .args .c) (values (now (s .args .g)))) p (s .args .left - 1)) last ∙ cut-at t (c .before .before) p e)
+visit-returns-4 : (t : ℕ) → visit-lts.Need-returns-4 (known t) (visit-at t) visit.Post visit-Inv-loop visit-μ-loop
+visit-returns-4 t c p e going = let s = c .before .before .before .before .before .before in let cell = cellOf (s .args .a) (s .args .b) (s .args .c) (values (now (s .args .g))) in let left = s .args .left in let l = c .before .loop in let last : l .k ≡ 8 = omega arith in
+    l .inv .3 p (rest-of passWords cell p left 0 zero-le _ _ (c .before .before .before .rest-known .ensures p e) .same (c .before .before .if2 .left)) ∙ ap passWords (ap (over cell p (left - 1)) last ∙ visit-over cell p left going (c .before .before .before .before .before .if1 .left) (s .pre .1 .2))
 
 pub +visit-spec : {M : Type 1} → statement M
 +visit-spec = close μ-visit λ t. visit-lts.spec (known t)
@@ -211,23 +189,20 @@ pub +visit-spec : {M : Type 1} → statement M
     visit.Post
     visit-Inv-loop
     visit-μ-loop
-    (visit-ended-requires t)
-    (visit-returns t)
     (visit-lowest-requires t)
-    (visit-skip-requires t)
-    (visit-returns-2 t)
     (visit-sub-at t)
     (visit-at-requires t)
     (visit-open-low-requires t)
-    (visit-returns-3 t)
+    (visit-returns t)
+    (visit-rest-known-requires t)
+    (visit-returns-2 t)
     (visit-loop-holds t)
-    (visit-ended-requires-2 t)
-    (visit-returns-4 t)
+    (visit-rest-known-requires-2 t)
+    (visit-returns-3 t)
     (visit-clear-requires t)
     (visit-side-requires t)
     (visit-side-requires-2 t)
     (visit-side-requires-3 t)
-    (visit-halve-requires t)
     (visit-mul-visit t)
     (visit-add-visit t)
     (visit-mul-visit-2 t)
@@ -240,8 +215,8 @@ pub +visit-spec : {M : Type 1} → statement M
     (visit-loop-less t)
     (visit-loop-again t)
     (visit-sub-skip t)
-    (visit-skip-requires-2 t)
+    (visit-skip-requires t)
     (visit-add-k-2 t)
     (visit-loop-less-2 t)
     (visit-loop-again-2 t)
-    (visit-returns-5 t)
+    (visit-returns-4 t)
