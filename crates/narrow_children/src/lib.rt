@@ -2,15 +2,16 @@
 // first child in it is due, and one without a low coefficient has no child with one. Of every child that is made the least coefficient is answered, and
 // the lowest number that holds it. An inner crate, for `narrow_search` and `narrow_bounds`.
 ghost use mathlib.Core.Path.{_≡_};
-ghost use mathlib.Core.Bool.{false};
+ghost use mathlib.Core.Bool.{false, _&&_};
 ghost use Prim.Native.Nat.{_<_};
+ghost use lib.Dec.{eqb};
 ghost use lib.ListN.{length};
 ghost use Rattle.definitions.specs.Jacobian.{side};
 ghost use Rattle.definitions.specs.Subdivision.{halve};
 ghost use Rattle.definitions.specs.Eighths.{eighthOf};
 ghost use Rattle.expansion_theory.specs.Control.{Cuttable};
 ghost use Rattle.verdict_theory.specs.Clear.{halfOf, quarterOf};
-ghost use Rattle.search_theory.specs.Meaning.{Small};
+ghost use Rattle.search_theory.specs.Meaning.{lowest, Small};
 ghost use Rattle.search_theory.specs.Children.{Ready, Run};
 ghost use Rattle.narrow_rows.specs.Word.{largest};
 ghost use Rattle.narrow_least.specs.Meaning.{told};
@@ -25,6 +26,19 @@ pub fn half_at(d: u32, first: bool, c: &[i64; 27], k: u32, out: &mut [i64; 27])
     if first {
         narrow_subdivision::halve(d, cell_corners::side(d, k), c, out);
     }
+}
+
+// The same, and whether it was made here and has no low coefficient.
+fn clear_half_at(d: u32, first: bool, c: &[i64; 27], k: u32, out: &mut [i64; 27]) -> bool
+    requires { ⌜ Cuttable largest (now c) × (d < 3) × (length (now out) ≡ 27) ⌝ }
+    requires { ⌜ (first ≡ false → now out ≡ halve d (side d k) (now c)) ⌝ }
+    ensures { λ r. ⌜ (now (out .exit) ≡ halve d (side d k) (now (c .entry))) × (r ≡ (first && eqb (lowest (halve d (side d k) (now (c .entry)))) 0)) ⌝ }
+{
+    half_at(d, first, c, k, out);
+    if first {
+        return narrow_lowest::lowest(out) == 0;
+    }
+    false
 }
 
 // The half and the quarter of g that child k lies in.
@@ -62,17 +76,11 @@ pub fn clear(
     requires { ⌜ Small largest (now g) 1 × (k < 8) × Ready (now g) k (now half) (now quarter) × (length (now out) ≡ 27) ⌝ }
     ensures { λ n. ⌜ Run (now (g .entry)) k n (now (half .exit)) (now (quarter .exit)) (now (out .exit)) ⌝ }
 {
-    half_at(2, k % 4 == 0, g, k, half);
-    if k % 4 == 0 {
-        if narrow_lowest::lowest(half) == 0 {
-            return 4;
-        }
+    if clear_half_at(2, k % 4 == 0, g, k, half) {
+        return 4;
     }
-    half_at(1, k % 2 == 0, half, k, quarter);
-    if k % 2 == 0 {
-        if narrow_lowest::lowest(quarter) == 0 {
-            return 2;
-        }
+    if clear_half_at(1, k % 2 == 0, half, k, quarter) {
+        return 2;
     }
     let told = eighth(k, quarter, out);
     if told.value <= 0 {

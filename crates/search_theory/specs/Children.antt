@@ -1,11 +1,16 @@
 -- A cell's children as the code makes them, by halves: what is kept from child to child, and which are known to have no low coefficient.
 use mathlib.Core.Path.{_≡_, refl, sym, _∙_, ap, subst}
+use mathlib.Core.Bool.{Bool, true, false, _&&_, and-eq-true-iff}
 use mathlib.Core.List.{List}
 use Prim.Native.Nat.{ℕ, zero, suc, _+_, _*_, _-_, _/_, _%_, _^_, _<_, _≤_}
 use native.Mathlib.Nat.{le-trans, pow-succ', pow-le-pow-right, zero-lt-suc, mul-assoc, mul-comm, mul-le-mul-left, mul-le-mul-right}
 use native.Mathlib.Omega.{arith}
+use borrow.Author.Tests.{eqb-true}
+use lib.Dec.{eqb}
 use lib.ListN.{length}
-use lib.IntN.{ℤ}
+use lib.IntN.{ℤ, pos}
+use lib.Signed.{leZ}
+use Rattle.foundation.specs.Least.{leastOf}
 use Rattle.foundation.specs.Lists.{equal-below}
 use Rattle.definitions.specs.Jacobian.{side}
 use Rattle.definitions.specs.Subdivision.{halve, child}
@@ -34,6 +39,27 @@ after k (suc n) = k + suc n
 pub after-some : (k n : ℕ) → (n ≡ 0 → ⊥) → after k n ≡ k + n
 after-some k zero h = absurd (h refl)
 after-some k (suc n) h = refl
+
+-- 27 coefficients without a lowest are clear
+pub lowest-clear : (c : List ℤ) → length c ≡ 27 → lowest c ≡ 0 → Clear c
+lowest-clear c h e = unblocked-clear (cellOf 0 0 0 c) h (clear (cellOf 0 0 0 c) e)
+
+-- how many children from k on are told to have none at once: four by their half, where child k is the first in it; else two by their quarter; else
+-- child k alone, by its least, or none
+abbrev pub halfTold : List ℤ → ℕ → Bool
+halfTold g k = eqb (k % 4) 0 && eqb (lowest (halfOf g k)) 0
+
+abbrev pub quarterTold : List ℤ → ℕ → Bool
+quarterTold g k = eqb (k % 2) 0 && eqb (lowest (quarterOf g k)) 0
+
+abbrev atOnce : Bool → Bool → Bool → ℕ
+atOnce true q c = 4
+atOnce false true c = 2
+atOnce false false true = 0
+atOnce false false false = 1
+
+abbrev pub clearRun : List ℤ → ℕ → ℕ
+clearRun g k = atOnce (halfTold g k) (quarterTold g k) (leZ (leastOf (childControl g k)) (pos 0))
 
 pub child-length : (g : List ℤ) (k : ℕ) → length (childControl g k) ≡ 27
 child-length g k = length-halve 2 (side 2 k) (halve 1 (side 1 k) (halve 0 (side 0 k) g))
@@ -73,6 +99,7 @@ module _ (g : List ℤ) where
 
   -- n children from k on are known to have no low coefficient; where none is, child k is made and has one; and the next child may come
   pub record Run (k n : ℕ) (half quarter made : List ℤ) : Type 0 where
+    pub told : n ≡ clearRun g k
     pub clears : (j : ℕ) → k ≤ j → j < k + n → Clear (childControl g j)
     pub made-is : n ≡ 0 → made ≡ childControl g k
     pub made-low : n ≡ 0 → lowest made ≡ 0 → ⊥
@@ -82,55 +109,55 @@ module _ (g : List ℤ) where
 
   module _ (k : ℕ) (h : k < 8) (half quarter made : List ℤ) where
     -- the half has none: four children
-    pub run-four : k % 4 ≡ 0 → half ≡ halfOf g k → length quarter ≡ 27 → length made ≡ 27 → Clear half → Run k 4 half quarter made
-    run-four z e q c p = record {
-      clears = λ j l m. half-clear g j (subst Clear (e ∙ same-half k j h (omega arith) (omega arith)) p);
-      made-is = λ n. absurd (omega arith);
-      made-low = λ n. absurd (omega arith);
-      made-sized = c;
-      end = omega arith;
-      next = λ m. record { half-sized = half-length k half e; quarter-sized = q; half-is = λ n. absurd (n (omega arith)); quarter-is = λ n. absurd (n (omega arith)) };
-    }
+    pub run-four : halfTold g k ≡ true → half ≡ halfOf g k → length quarter ≡ 27 → length made ≡ 27 → Run k 4 half quarter made
+    run-four t e q c = let two = and-eq-true-iff (eqb (k % 4) 0) (eqb (lowest (halfOf g k)) 0) .0 t in let z = eqb-true (k % 4) 0 (two .0) in
+        let p = lowest-clear (halfOf g k) (length-halve 2 (side 2 k) g) (eqb-true (lowest (halfOf g k)) 0 (two .1)) in record {
+          told = sym (ap (λ (b : Bool). atOnce b (quarterTold g k) (leZ (leastOf (childControl g k)) (pos 0))) t);
+          clears = λ j l m. half-clear g j (subst Clear (same-half k j h (omega arith) (omega arith)) p);
+          made-is = λ n. absurd (omega arith);
+          made-low = λ n. absurd (omega arith);
+          made-sized = c;
+          end = omega arith;
+          next = λ m. record { half-sized = half-length k half e; quarter-sized = q; half-is = λ n. absurd (n (omega arith)); quarter-is = λ n. absurd (n (omega arith)) };
+        }
 
-    -- the quarter has none: two
-    pub run-two : k % 2 ≡ 0 → half ≡ halfOf g k → quarter ≡ quarterOf g k → length made ≡ 27 → Clear quarter → Run k 2 half quarter made
-    run-two z e f c p = record {
-      clears = λ j l m. quarter-clear g j (subst Clear (f ∙ same-quarter k j h (omega arith) (omega arith)) p);
-      made-is = λ n. absurd (omega arith);
-      made-low = λ n. absurd (omega arith);
-      made-sized = c;
-      end = omega arith;
-      next = λ m. record { half-sized = half-length k half e; quarter-sized = quarter-length k quarter f; half-is = λ n. e ∙ same-half k (k + 2) h m (omega arith); quarter-is = λ n. absurd (n (omega arith)) };
-    }
+    module _ (t : halfTold g k ≡ false) (e : half ≡ halfOf g k) (f : quarter ≡ quarterOf g k) where
+      -- the quarter has none: two
+      pub run-two : quarterTold g k ≡ true → length made ≡ 27 → Run k 2 half quarter made
+      run-two u c = let two = and-eq-true-iff (eqb (k % 2) 0) (eqb (lowest (quarterOf g k)) 0) .0 u in let z = eqb-true (k % 2) 0 (two .0) in
+          let p = lowest-clear (quarterOf g k) (length-halve 1 (side 1 k) (halfOf g k)) (eqb-true (lowest (quarterOf g k)) 0 (two .1)) in record {
+            told = sym (λ i. atOnce (t i) (u i) (leZ (leastOf (childControl g k)) (pos 0)));
+            clears = λ j l m. quarter-clear g j (subst Clear (same-quarter k j h (omega arith) (omega arith)) p);
+            made-is = λ n. absurd (omega arith);
+            made-low = λ n. absurd (omega arith);
+            made-sized = c;
+            end = omega arith;
+            next = λ m. record { half-sized = half-length k half e; quarter-sized = quarter-length k quarter f; half-is = λ n. e ∙ same-half k (k + 2) h m (omega arith); quarter-is = λ n. absurd (n (omega arith)) };
+          }
 
-    -- child k is made: it has none, or one
-    module _ (e : half ≡ halfOf g k) (f : quarter ≡ quarterOf g k) (c : made ≡ childControl g k) where
-      made-length : length made ≡ 27
-      made-length = ap length c ∙ child-length g k
+      -- child k is made: it has none, or one
+      module _ (u : quarterTold g k ≡ false) (c : made ≡ childControl g k) where
+        pub run-one : leZ (leastOf (childControl g k)) (pos 0) ≡ false → Clear (childControl g k) → Run k 1 half quarter made
+        run-one v p = record {
+          told = sym (λ i. atOnce (t i) (u i) (v i));
+          clears = λ j l m. let i : k ≡ j = omega arith in subst (λ (n : ℕ). Clear (childControl g n)) i p;
+          made-is = λ n. absurd (omega arith);
+          made-low = λ n. absurd (omega arith);
+          made-sized = ap length c ∙ child-length g k;
+          end = omega arith;
+          next = λ m. ready-next k m half quarter e f;
+        }
 
-      pub run-one : Clear (childControl g k) → Run k 1 half quarter made
-      run-one p = record {
-        clears = λ j l m. let i : k ≡ j = omega arith in subst (λ (n : ℕ). Clear (childControl g n)) i p;
-        made-is = λ n. absurd (omega arith);
-        made-low = λ n. absurd (omega arith);
-        made-sized = made-length;
-        end = omega arith;
-        next = λ m. ready-next k m half quarter e f;
-      }
-
-      pub run-none : (lowest (childControl g k) ≡ 0 → ⊥) → Run k 0 half quarter made
-      run-none p = record {
-        clears = λ j l m. absurd (omega arith);
-        made-is = λ n. c;
-        made-low = λ n z. p (sym (ap lowest c) ∙ z);
-        made-sized = made-length;
-        end = omega arith;
-        next = λ m. ready-next k m half quarter e f;
-      }
-
--- 27 coefficients without a lowest are clear
-pub lowest-clear : (c : List ℤ) → length c ≡ 27 → lowest c ≡ 0 → Clear c
-lowest-clear c h e = unblocked-clear (cellOf 0 0 0 c) h (clear (cellOf 0 0 0 c) e)
+        pub run-none : leZ (leastOf (childControl g k)) (pos 0) ≡ true → (lowest (childControl g k) ≡ 0 → ⊥) → Run k 0 half quarter made
+        run-none v p = record {
+          told = sym (λ i. atOnce (t i) (u i) (v i));
+          clears = λ j l m. absurd (omega arith);
+          made-is = λ n. c;
+          made-low = λ n z. p (sym (ap lowest c) ∙ z);
+          made-sized = ap length c ∙ child-length g k;
+          end = omega arith;
+          next = λ m. ready-next k m half quarter e f;
+        }
 
 -- child k from its quarter
 pub child-made : (g : List ℤ) (k : ℕ) (quarter xs : List ℤ) → quarter ≡ quarterOf g k → xs ≡ halve 0 (side 0 k) quarter → xs ≡ childControl g k

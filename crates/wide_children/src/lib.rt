@@ -2,15 +2,16 @@
 // first child in it is due, and one without a low coefficient has no child with one. Of every child that is made the least coefficient is answered, and
 // the lowest number that holds it. An inner crate, for `wide_search` and `wide_bounds`.
 ghost use mathlib.Core.Path.{_≡_};
-ghost use mathlib.Core.Bool.{false};
+ghost use mathlib.Core.Bool.{false, _&&_};
 ghost use Prim.Native.Nat.{_<_};
+ghost use lib.Dec.{eqb};
 ghost use lib.ListN.{length};
 ghost use Rattle.definitions.specs.Jacobian.{side};
 ghost use Rattle.definitions.specs.Subdivision.{halve};
 ghost use Rattle.definitions.specs.Eighths.{eighthOf};
 ghost use Rattle.expansion_theory.specs.Control.{Cuttable};
 ghost use Rattle.verdict_theory.specs.Clear.{halfOf, quarterOf};
-ghost use Rattle.search_theory.specs.Meaning.{Small};
+ghost use Rattle.search_theory.specs.Meaning.{lowest, Small};
 ghost use Rattle.search_theory.specs.Children.{Ready, Run};
 ghost use Rattle.wide_array.specs.Values.{values};
 ghost use Rattle.wide_rows.specs.Word.{largest};
@@ -26,6 +27,20 @@ pub fn half_at(d: u32, first: bool, c: &[u64; 54], k: u32, out: &mut [u64; 54])
     if first {
         wide_subdivision::halve(d, cell_corners::side(d, k), c, out);
     }
+}
+
+// The same, and whether it was made here and has no low coefficient.
+fn clear_half_at(d: u32, first: bool, c: &[u64; 54], k: u32, out: &mut [u64; 54]) -> bool
+    requires { ⌜ Cuttable largest (values (now c)) × (d < 3) × (length (now out) ≡ 54) ⌝ }
+    requires { ⌜ (first ≡ false → values (now out) ≡ halve d (side d k) (values (now c))) ⌝ }
+    ensures { λ r. ⌜ (values (now (out .exit)) ≡ halve d (side d k) (values (now (c .entry)))) × (r ≡ (first && eqb (lowest (halve d (side d k) (values (now (c .entry))))) 0)) ⌝ }
+    ensures { λ r. ⌜ length (now (out .exit)) ≡ 54 ⌝ }
+{
+    half_at(d, first, c, k, out);
+    if first {
+        return wide_lowest::lowest(out) == 0;
+    }
+    false
 }
 
 // The half and the quarter of g that child k lies in.
@@ -68,17 +83,11 @@ pub fn clear(
     ensures { λ n. ⌜ Run (values (now (g .entry))) k n (values (now (half .exit))) (values (now (quarter .exit))) (values (now (out .exit))) ⌝ }
     ensures { λ n. ⌜ (length (now (half .exit)) ≡ 54) × (length (now (quarter .exit)) ≡ 54) × (length (now (out .exit)) ≡ 54) ⌝ }
 {
-    half_at(2, k % 4 == 0, g, k, half);
-    if k % 4 == 0 {
-        if wide_lowest::lowest(half) == 0 {
-            return 4;
-        }
+    if clear_half_at(2, k % 4 == 0, g, k, half) {
+        return 4;
     }
-    half_at(1, k % 2 == 0, half, k, quarter);
-    if k % 2 == 0 {
-        if wide_lowest::lowest(quarter) == 0 {
-            return 2;
-        }
+    if clear_half_at(1, k % 2 == 0, half, k, quarter) {
+        return 2;
     }
     let told = eighth(k, quarter, out);
     let value = told.value;
