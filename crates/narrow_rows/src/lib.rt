@@ -1,4 +1,4 @@
-// A row of three numbers of one word, cut by de Casteljau's rule and kept four times larger. An inner crate, for `narrow_halves`.
+// A row of three numbers of one word, cut by de Casteljau's rule and kept four times larger. An inner crate, for `narrow_halves` and, its middle, for `narrow_grid`.
 ghost use mathlib.Core.Path.{_≡_};
 ghost use mathlib.Core.List.{[], _∷_};
 ghost use Prim.Native.Nat.{_+_, _<_};

@@ -1,4 +1,4 @@
-// A row of three numbers of two words, cut by de Casteljau's rule and kept four times larger. An inner crate, for `wide_halves`.
+// A row of three numbers of two words, cut by de Casteljau's rule and kept four times larger. An inner crate, for `wide_halves` and, its middle, for `wide_grid`.
 ghost use mathlib.Core.Path.{_≡_};
 ghost use mathlib.Core.List.{[], _∷_};
 ghost use Prim.Native.Nat.{_+_, _<_};
