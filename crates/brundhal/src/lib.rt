@@ -66,6 +66,28 @@ pub extern "C" fn brundhal_bounds(points: &[i32; 24], depth: u32) -> BrundhalBou
     brundhal_bounds_answers::pair(inspector::bounds_of(p, depth))
 }
 
+// The same by the second inspector: `auditor::inspect` and `auditor::bounds_of`.
+#[no_mangle]
+pub extern "C" fn brundhal_audit(
+    coordinates: &[i32],
+    indices: &[u32],
+    depth: u32,
+    report: &mut [i64],
+) -> BrundhalInspection
+    ensures { λ r. ⌜ inspectionFields r ≡ inspectionNumbers (inspection base (now (coordinates .entry)) (now (indices .entry)) (length (now (report .entry))) depth) ⌝ }
+    ensures { λ r. ⌜ now (report .exit) ≡ reportAfter base (now (coordinates .entry)) (now (indices .entry)) (now (report .entry)) depth ⌝ }
+{
+    brundhal_mesh_answers::numbers(auditor::inspect(coordinates, indices, depth, report))
+}
+
+#[no_mangle]
+pub extern "C" fn brundhal_audit_bounds(points: &[i32; 24], depth: u32) -> BrundhalBounds
+    ensures { λ r. ⌜ boundsFields r ≡ boundsNumbers (boundsOf base (now (points .entry)) depth) ⌝ }
+{
+    let p = *points;
+    brundhal_bounds_answers::pair(auditor::bounds_of(p, depth))
+}
+
 // The stamp of an inspection's answer, 0 sound, 1 faulty or 2 open: `inspection_counts::stamp_of`. An answer with another number than 0 is that of a
 // refused mesh, which has no stamp: 3.
 #[no_mangle]

@@ -2,11 +2,11 @@
 // Every contract is an equation with `specs/Meaning.antt`: the fields of an answer are the numbers of the definition's.
 ghost use mathlib.Core.Path.{_≡_};
 ghost use mathlib.Core.List.{[], _∷_};
-ghost use Rattle.inspector.specs.Meaning.{boundsHeld};
+ghost use Rattle.inspection_answers.specs.Meaning.{boundsHeld};
 ghost use Rattle.brundhal_bounds_answers.specs.Meaning.{boundsNumbers, boundsFields};
 use brundhal_number_answers::BrundhalNumber;
 use brundhal_number_answers::words;
-use inspector::Bounds;
+use inspection_answers::Bounds;
 
 // The number that answers the bounds service, 0, 1 or 6, and both bounds.
 #[repr(C)]

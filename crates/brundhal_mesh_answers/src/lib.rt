@@ -2,11 +2,11 @@
 // inner crate: `brundhal` exports the services. Every contract is an equation with `specs/Meaning.antt`: the fields of an answer are the numbers of the definition's.
 ghost use mathlib.Core.Path.{_≡_};
 ghost use Rattle.inspection_counts.specs.Meaning.{stampHeld};
-ghost use Rattle.inspector.specs.Meaning.{inspectionHeld};
+ghost use Rattle.inspection_answers.specs.Meaning.{inspectionHeld};
 ghost use Rattle.brundhal_mesh_answers.specs.Meaning.{inspectionNumbers, inspectionFields, stampNumber, stampTold, stampFor};
+use inspection_answers::Inspection;
 use inspection_counts::Counts;
 use inspection_counts::Stamp;
-use inspector::Inspection;
 
 // The number that answers an inspection, 0 or 1 to 4, and the four counts.
 #[repr(C)]

@@ -12,7 +12,7 @@ ghost use Rattle.verdict_theory.specs.Clear.{childControl};
 ghost use Rattle.search_theory.specs.Meaning.{Small};
 ghost use Rattle.narrow_rows.specs.Word.{largest};
 ghost use Rattle.wide_array.specs.Values.{values};
-ghost use Rattle.wide_rows.specs.Word.{largest as widest};
+ghost use Rattle.wide_array.specs.Word.{largest as widest};
 
 // Child k, 0 to 7, of a cell with coefficients g, in numbers of one word: its coefficients into out; the least of them, and then its number, into told.
 #[no_mangle]

@@ -19,7 +19,7 @@ use Rattle.verdict_theory.specs.Elements.{element-points, report-length}
 use Rattle.mesh_checks.specs.Refusals.{accepted-mesh}
 use Rattle.mesh_elements.specs.Elements.{whole-element}
 use Rattle.inspector.specs.Reports.{report-part}
-use Rattle.inspector.specs.Answers.{refusalHere, accepted-space, bounds-inside}
+use Rattle.inspection_answers.specs.Answers.{refusalHere, accepted-space, bounds-inside}
 use Rattle.inspector.specs.Own.{inOrder, own-points, own-element, own-mesh}
 
 -- A mesh as a caller hands it in, with its report space.

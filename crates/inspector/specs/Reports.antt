@@ -10,7 +10,7 @@ use Rattle.foundation.specs.Lists.{All, all-tabulate, concatMap, tabulate, leng
 use Rattle.definitions.specs.Limits.{Limits, recordWords}
 use Rattle.definitions.specs.Mesh.{elementRecord, records, report}
 use Rattle.verdict_theory.specs.Elements.{element-length}
-use Rattle.mesh_records.specs.Reports.{recordAt}
+use Rattle.mesh_report.specs.Entries.{recordAt}
 
 concat-part : (rs : List (List ℤ)) (e : ℕ) → All (λ r. length r ≡ recordWords) rs → e < length rs → take recordWords (drop (recordWords * e) (concatMap (λ r. r) rs)) ≡ getD rs e []
 concat-part [] e h l = absurd (omega arith)

@@ -16,9 +16,9 @@ use Rattle.definitions.specs.Mesh.{MeshRefusal, records, report, Counts, howMan
 use Rattle.verdict_theory.specs.Kinds.{isRefusal, HasKind, Kind, kind0, kind1, kind2, kind5, kind6, kind7, number-is, kind-of, counted, counts-front, counts-total}
 use Rattle.verdict_theory.specs.Elements.{element-same, records-kinds, report-length}
 use Rattle.inspection_counts.specs.Answers.{stamp-is}
-use Rattle.mesh_records.specs.Reports.{recordAt}
+use Rattle.mesh_report.specs.Entries.{recordAt}
 use Rattle.inspector.specs.Reports.{report-part}
-use Rattle.inspector.specs.Answers.{refusalHere, refused-answer, accepted-answer, accepted-space}
+use Rattle.inspection_answers.specs.Answers.{refusalHere, refused-answer, accepted-answer, accepted-space}
 
 -- a record is invalid or refused
 abbrev pub isFaulty : List ℤ → Bool

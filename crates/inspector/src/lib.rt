@@ -7,28 +7,12 @@ ghost use mathlib.Core.Path.{_≡_};
 ghost use lib.ListN.{length};
 ghost use Rattle.definitions.specs.Limits.{base};
 ghost use Rattle.definitions.specs.Mesh.{inspection, reportAfter, boundsOf};
-ghost use Rattle.inspector.specs.Meaning.{inspectionHeld, boundsHeld};
-use inspection_counts::Counts;
+ghost use Rattle.inspection_answers.specs.Meaning.{inspectionHeld, boundsHeld};
+use inspection_answers::Bounds;
+use inspection_answers::Inspection;
 use limits::MAX_DEPTH;
 use mesh_checks::Checked;
 use mesh_points::First;
-use wide_number::Wide;
-
-// The answer of an inspection: accepted, with the counts of valid, invalid, undecided and refused records; or why the mesh is refused.
-pub enum Inspection {
-    Accepted(Counts),
-    DepthTooGreat,
-    BadCoordinates,
-    BadIndices,
-    BadSpace,
-}
-
-// The answer of the bounds service: the low and the high bound, or why the points are refused.
-pub enum Bounds {
-    Both(Wide, Wide),
-    TooDeep,
-    OutOfRange,
-}
 
 // Inspects a mesh: three coordinates a node, eight indices an element, a depth, and report space of nine words an element.
 pub fn inspect(coordinates: &[i32], indices: &[u32], depth: u32, report: &mut [i64]) -> Inspection

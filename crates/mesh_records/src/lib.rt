@@ -2,51 +2,12 @@
 // An inner crate: only the inspector calls it, and it meets what each `requires` asks.
 // Every answer is an equation with `Record` and `Mesh` of the definitions at the limits `base`.
 ghost use mathlib.Core.Path.{_≡_};
-ghost use mathlib.Core.Bool.{true};
-ghost use Prim.Native.Nat.{_-_, _*_, _/_, _%_, _^_, _<_, _≤_};
+ghost use Prim.Native.Nat.{_*_, _/_, _%_, _≤_};
 ghost use lib.ListN.{length};
 ghost use Rattle.definitions.specs.Limits.{base, recordWords};
 ghost use Rattle.definitions.specs.Mesh.{records, report as reportOf, countsOf};
-ghost use Rattle.verdict_theory.specs.Kinds.{isKind, counted, countsTotal};
 ghost use Rattle.inspection_counts.specs.Meaning.{countsHeld};
 use inspection_counts::Counts;
-
-// The counts with one record more, by its word 0, which is that of a kind.
-fn counted(kind: i64, n: Counts) -> Counts
-    requires { ⌜ (isKind kind ≡ true) × (countsTotal (countsHeld n) < 2 ^ 32 - 1) ⌝ }
-    ensures { λ r. ⌜ countsHeld r ≡ counted kind (countsHeld n) ⌝ }
-{
-    if kind == 0 {
-        return Counts {
-            valid: n.valid + 1,
-            invalid: n.invalid,
-            undecided: n.undecided,
-            refused: n.refused,
-        };
-    }
-    if kind == 1 {
-        return Counts {
-            valid: n.valid,
-            invalid: n.invalid + 1,
-            undecided: n.undecided,
-            refused: n.refused,
-        };
-    }
-    if kind == 2 {
-        return Counts {
-            valid: n.valid,
-            invalid: n.invalid,
-            undecided: n.undecided + 1,
-            refused: n.refused,
-        };
-    }
-    Counts {
-        valid: n.valid,
-        invalid: n.invalid,
-        undecided: n.undecided,
-        refused: n.refused + 1,
-    }
-}
 
 // The records of all elements into the report space, element by element, and how many there are of each kind.
 pub fn write_records(coordinates: &[i32], indices: &[u32], depth: u32, report: &mut [i64]) -> Counts
@@ -65,9 +26,7 @@ pub fn write_records(coordinates: &[i32], indices: &[u32], depth: u32, report: &
     for e in 0..n {
         let at = 8 * e;
         let words = mesh_element_records::element(coordinates, &indices[at..at + 8], depth);
-        let kind = words[0];
-        counts = counted(kind, counts);
-        mesh_report::put(report, e, words);
+        counts = mesh_report::enter(words, e, counts, report);
     }
     counts
 }

@@ -1,1 +1,3 @@
 pub mod Report
+pub mod Kinds
+pub mod Entries

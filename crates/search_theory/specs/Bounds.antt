@@ -37,11 +37,11 @@ values-from g f h k zero l = refl
 values-from g f h k (suc n) l = ap₂ _∷_ (h k) (values-from g f h (suc k) n (omega arith)) ∙ sym (ap (take (suc n)) (drop-cons g k (pos 0) (omega arith)))
 
 module _ (s : Cell) (sized : length (s .control) ≡ 27) where
-  coefficient-values : map (λ v. v .value) (coefficientsOf s) ≡ take 27 (s .control)
+  pub coefficient-values : map (λ v. v .value) (coefficientsOf s) ≡ take 27 (s .control)
   unfolding coefficientsOf
   coefficient-values = values-from (s .control) (λ n. record { number = suc n; a = s .a; b = s .b; c = s .c; value = getD (s .control) n (pos 0) }) (λ k. refl) 0 27 (omega arith)
 
-  corner-values : map (λ v. v .value) (cornerValues s) ≡ take 8 (s .control)
+  pub corner-values : map (λ v. v .value) (cornerValues s) ≡ take 8 (s .control)
   unfolding cornerValues
   corner-values = values-from (s .control) (λ k. record { number = suc k; a = s .a + side 0 k; b = s .b + side 1 k; c = s .c + side 2 k; value = getD (s .control) k (pos 0) }) (λ k. refl) 0 8 (omega arith)
 

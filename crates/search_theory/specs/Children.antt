@@ -164,7 +164,7 @@ pub child-made : (g : List ℤ) (k : ℕ) (quarter xs : List ℤ) → quarter �
 child-made g k quarter xs e f = f ∙ ap (halve 0 (side 0 k)) e ∙ child-by-halves g k
 
 -- ---- magnitudes
-half-control : (b d h : ℕ) (c : List ℤ) → Control b c → Control (4 * b) (halve d h c)
+pub half-control : (b d h : ℕ) (c : List ℤ) → Control b c → Control (4 * b) (halve d h c)
 half-control b d h c w = record { sized = length-halve d h c; within = halve-size b d h c (w .within) }
 
 grown : (k x n : ℕ) → k * x * k ^ n ≡ x * k ^ suc n

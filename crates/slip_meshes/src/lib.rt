@@ -10,7 +10,7 @@ ghost use Rattle.lot_format.specs.Runs.{lotFrom};
 ghost use Rattle.bytes_output.specs.Behind.{Laid};
 ghost use Rattle.lot_reader.specs.Promise.{asRead};
 ghost use Rattle.slip_meshes.specs.Counted.{lent, Counted};
-use inspector::Inspection;
+use inspection_answers::Inspection;
 
 // The slip of a lot whose elements are few enough, its groups handed in as their runs: its mesh is inspected at the depth of a slip, with lent
 // space for the report.

@@ -1,1 +1,3 @@
+pub mod Word
 pub mod Values
+pub mod Rows

@@ -12,7 +12,7 @@ ghost use Rattle.search_theory.specs.Meaning.{Small};
 ghost use Rattle.search_theory.specs.Bounds.{withControl, boundsAt};
 ghost use Rattle.wide_number.specs.Meaning.{valueOf};
 ghost use Rattle.wide_array.specs.Values.{values};
-ghost use Rattle.wide_rows.specs.Word.{largest};
+ghost use Rattle.wide_array.specs.Word.{largest};
 ghost use Rattle.wide_bounds.specs.Meaning.{extremesOf};
 use wide_number::Wide;
 

@@ -14,7 +14,7 @@ ghost use Rattle.verdict_theory.specs.Clear.{halfOf, quarterOf};
 ghost use Rattle.search_theory.specs.Meaning.{lowest, Small};
 ghost use Rattle.search_theory.specs.Children.{Ready, Run};
 ghost use Rattle.wide_array.specs.Values.{values};
-ghost use Rattle.wide_rows.specs.Word.{largest};
+ghost use Rattle.wide_array.specs.Word.{largest};
 ghost use Rattle.wide_least.specs.Meaning.{told};
 use wide_least::Least;
 

@@ -8,7 +8,7 @@ ghost use Rattle.search_theory.specs.Meaning.{Small};
 ghost use Rattle.search_theory.specs.Grid.{middle as middleOf, middles, lowInRow, facesLow, betweenLow, gridLow};
 ghost use Rattle.wide_number.specs.Meaning.{valueOf};
 ghost use Rattle.wide_array.specs.Values.{values};
-ghost use Rattle.wide_rows.specs.Word.{largest, cutLargest};
+ghost use Rattle.wide_array.specs.Word.{largest, cutLargest};
 use wide_number::Wide;
 
 // Whether one of the three points of the row p, q, r is not above 0: its ends, and its middle, which is taken four times.

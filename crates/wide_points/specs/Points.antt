@@ -26,7 +26,7 @@ use Rattle.search_theory.specs.Points.{points-small as small-within}
 use Rattle.search_theory.specs.Levels.{named-small, most-less}
 use Rattle.search_theory.specs.Bounds.{low-holds, high-holds}
 use Rattle.element_vectors.specs.Range.{InRange}
-use Rattle.wide_rows.specs.Word.{largest}
+use Rattle.wide_array.specs.Word.{largest}
 
 -- 02, No. 8: "The largest held coefficient is below 384·2^108."
 abbrev pub heldMost : ℕ

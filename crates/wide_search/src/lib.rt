@@ -13,7 +13,7 @@ ghost use Rattle.search_theory.specs.Meaning.{cellOf, lowest, Small, Room, Held
 ghost use Rattle.search_theory.specs.Visit.{RestTold};
 ghost use Rattle.search_theory.specs.Levels.{wholeOf, fresh};
 ghost use Rattle.wide_array.specs.Values.{values};
-ghost use Rattle.wide_rows.specs.Word.{largest};
+ghost use Rattle.wide_array.specs.Word.{largest};
 ghost use Rattle.search_pass.specs.Meaning.{passWords};
 use limits::RECORD_WORDS;
 use search_pass::PASS_WORDS;

@@ -7,7 +7,7 @@ ghost use lib.ListN.{length};
 ghost use Rattle.definitions.specs.Subdivision.{halve};
 ghost use Rattle.expansion_theory.specs.Control.{Cuttable};
 ghost use Rattle.wide_array.specs.Values.{values};
-ghost use Rattle.wide_rows.specs.Word.{largest};
+ghost use Rattle.wide_array.specs.Word.{largest};
 
 // The half of c on side h, 0 or else 1, in direction d, four times larger, into out. It branches six ways in one place: with a function
 // for each side the compiler lays the three directions over each other and reads their places from tables.

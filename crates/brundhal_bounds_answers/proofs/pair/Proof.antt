@@ -1,8 +1,8 @@
 -- `brundhal_bounds_answers::pair` meets its contract: by the answer's cases. Assumes nothing.
 use mathlib.Core.Path.{sym, ap, _∙_}
 use mathlib.Core.List.{_∷_, _++_}
-use Rattle.inspector.specs.declared.Bounds.{Bounds}
-use Rattle.inspector.specs.Meaning.{boundsHeld}
+use Rattle.inspection_answers.specs.declared.Bounds.{Bounds}
+use Rattle.inspection_answers.specs.Meaning.{boundsHeld}
 use Rattle.brundhal_number_answers.specs.Meaning.{numberWords}
 use Rattle.brundhal_bounds_answers.specs.Meaning.{boundsNumbers}
 use borrow.Author.Needs.{needs}

@@ -1,7 +1,7 @@
 -- `brundhal_mesh_answers::numbers` meets its contract: by the answer's cases. Assumes nothing.
 use mathlib.Core.Path.{sym, ap, _∙_}
-use Rattle.inspector.specs.declared.Inspection.{Inspection}
-use Rattle.inspector.specs.Meaning.{inspectionHeld}
+use Rattle.inspection_answers.specs.declared.Inspection.{Inspection}
+use Rattle.inspection_answers.specs.Meaning.{inspectionHeld}
 use Rattle.brundhal_mesh_answers.specs.Meaning.{inspectionNumbers, inspectionFields}
 use borrow.Author.Needs.{needs}
 use Rattle.brundhal_mesh_answers.proofs.numbers.Statement.{statement}

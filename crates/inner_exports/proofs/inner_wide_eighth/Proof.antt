@@ -13,7 +13,7 @@ use Rattle.search_theory.specs.Children.{cut-whole, cut-half, cut-quarter}
 use Rattle.search_theory.specs.Eighths.{eighth-made}
 use Rattle.wrapping_theory.specs.Words.{AreWords, low-word-is, high-word-is}
 use Rattle.wide_array.specs.Values.{values}
-use Rattle.wide_rows.specs.Word.{largest}
+use Rattle.wide_array.specs.Word.{largest}
 use Rattle.inner_exports.proofs.inner_wide_eighth.Statement.{statement}
 use Rattle.inner_exports.proofs.inner_wide_eighth.Tie as tie
 

@@ -8,7 +8,7 @@ use Rattle.definitions.specs.Mesh.{bounds}
 use Rattle.verdict_theory.specs.Extremes.{Extremes}
 use Rattle.mesh_points.specs.Meaning.{firstOf}
 use Rattle.mesh_points.specs.Points.{read-within}
-use Rattle.inspector.specs.Answers.{bounds-deep, bounds-outside, bounds-inside}
+use Rattle.inspection_answers.specs.Answers.{bounds-deep, bounds-outside, bounds-inside}
 use borrow.Author.Needs.{needs}
 use Rattle.inspector.proofs.bounds_of.Statement.{statement}
 use Rattle.inspector.proofs.bounds_of.Tie as tie

@@ -7,7 +7,7 @@ use Rattle.definitions.specs.Limits.{base}
 use Rattle.definitions.specs.Mesh.{MeshRefusal, depthTooGreat, badCoordinates, badIndices, badSpace, meshAccepted, meshRefused, inspection, reportAfter}
 use Rattle.mesh_checks.specs.Meaning.{checkOf}
 use Rattle.mesh_checks.specs.Refusals.{accepted-mesh}
-use Rattle.inspector.specs.Answers.{refusalHere, refused-answer, refused-space, accepted-answer, accepted-space}
+use Rattle.inspection_answers.specs.Answers.{refusalHere, refused-answer, refused-space, accepted-answer, accepted-space}
 use borrow.Author.Needs.{needs}
 use Rattle.inspector.proofs.inspect.Statement.{statement}
 use Rattle.inspector.proofs.inspect.Tie as tie

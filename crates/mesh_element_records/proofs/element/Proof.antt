@@ -1,21 +1,7 @@
 -- `mesh_element_records::element` meets its contract: by the element's fault, or its points. Assumes nothing.
-use mathlib.Core.Path.{_≡_, refl, sym, ap, _∙_, subst}
-use mathlib.Core.List.{List}
-use mathlib.Core.Option.{some}
-use Prim.Native.Nat.{ℕ}
-use lib.ListN.{length}
-use lib.IntN.{ℤ}
+use mathlib.Core.Path.{refl, _∙_}
 use denote.Ref.{now}
-use Rattle.definitions.specs.Limits.{base}
-use Rattle.definitions.specs.Record.{Fault, faultWords, recordOf}
-use Rattle.definitions.specs.Mesh.{pointsOf, faultOf, elementRecord}
-use Rattle.verdict_theory.specs.Elements.{element-fault, element-points}
-use Rattle.element_vectors.specs.Range.{InRange}
-use Rattle.mesh_elements.specs.declared.Element.{Element}
-use Rattle.mesh_elements.specs.declared.Element.the-variants.{Whole}
-use Rattle.mesh_elements.specs.Meaning.{elementOf}
-use Rattle.mesh_elements.specs.Elements.{whole-element, points-gathered}
-use Rattle.mesh_points.specs.Points.{read-within, length-points}
+use Rattle.mesh_elements.specs.Records.{whole-sized, whole-within, whole-record, refused-record}
 use borrow.Author.Needs.{needs}
 use Rattle.mesh_element_records.proofs.element.Statement.{statement}
 use Rattle.mesh_element_records.proofs.element.Tie as tie
@@ -26,35 +12,9 @@ fault-requires c κs = search needs
 enum-told : tie.Need-enum-told
 enum-told c = search needs
 
--- ---- what the call of `fault` tells
-module _ (c : tie.After-fault) where
-  abbrev coordinates : List ℤ
-  coordinates = now (c .before .before .before .args .coordinates)
-
-  abbrev ix : List ℕ
-  ix = now (c .before .before .before .args .ix)
-
-  abbrev depth : ℕ
-  depth = c .before .before .before .args .depth
-
-  fault-is : {x : Element} → c .fault .result ≡ x → faultOf base coordinates ix ≡ elementOf x
-  fault-is e = sym (c .fault .ensures .0) ∙ ap elementOf e
-
-  -- where nothing is at fault the points are gathered, and in range
-  gathered : c .fault .result ≡ Whole → c .fault .last .1 .1 .0 ≡ pointsOf coordinates ix
-  gathered e = c .fault .ensures .1 ∙ sym (points-gathered coordinates ix _ (whole-element base coordinates ix (fault-is e) .named))
-
-  in-range : c .fault .result ≡ Whole → InRange (base .range) (c .fault .last .1 .1 .0)
-  in-range e = subst (InRange (base .range)) (sym (gathered e))
-      (record { small = read-within base (pointsOf coordinates ix) (whole-element base coordinates ix (fault-is e) .points) (length-points coordinates ix) })
-
-  -- else the words of the fault are the record
-  refused : {x : Element} → c .fault .result ≡ x → (f : Fault) → elementOf x ≡ some f → faultWords f ≡ elementRecord base coordinates ix depth
-  refused e f h = sym (element-fault base coordinates ix depth f (fault-is e ∙ h))
-
 record-requires : tie.Need-record-requires
-record-requires c κs = let e = c .before in let f = e .before .before in
-    ((in-range f (e .enum-told .given .1), f .before .before .before .pre .1), ap length (gathered f (e .enum-told .given .1)) ∙ length-points (coordinates f) (ix f))
+record-requires c κs = let e = c .before in let f = e .before .before in let s = f .before .before .before in
+    ((record { small = whole-within (now (s .args .coordinates)) (now (s .args .ix)) (f .fault .result) (f .fault .ensures .0) _ (f .fault .ensures .1) (e .enum-told .given .1) }, s .pre .1), whole-sized (now (s .args .coordinates)) (now (s .args .ix)) (f .fault .result) (f .fault .ensures .0) _ (f .fault .ensures .1) (e .enum-told .given .1))
 
 enum-known-fault : tie.Need-enum-known-fault
 enum-known-fault c = search needs
@@ -75,19 +35,20 @@ fault-words-requires-3 : tie.Need-fault-words-requires-3
 fault-words-requires-3 c κs = search needs
 
 returns : tie.Need-returns
-returns c =
-    let e = c .before .before in
-    let s = e .before .before in
-    c .«record» .ensures ∙ ap (λ (xs : List ℤ). recordOf xs (depth s)) (gathered s (e .enum-told .given .1)) ∙ sym (element-points base (coordinates s) (ix s) (depth s) (fault-is s (e .enum-told .given .1)))
+returns c = let e = c .before .before in let f = e .before .before in let s = f .before .before .before in
+    c .«record» .ensures ∙ whole-record (now (s .args .coordinates)) (now (s .args .ix)) (f .fault .result) (f .fault .ensures .0) _ (f .fault .ensures .1) (e .enum-told .given .1) (s .args .depth)
 
 returns-2 : tie.Need-returns-2
-returns-2 c = let f = c .before .before in c .fault-words .ensures ∙ refused (f .before .before) (f .fault2 .given .1) _ refl
+returns-2 c = let k = c .before .before in let f = k .before .before in let s = f .before .before .before in
+    c .fault-words .ensures ∙ refused-record (now (s .args .coordinates)) (now (s .args .ix)) (f .fault .result) (f .fault .ensures .0) (k .fault2 .given .1) _ refl (s .args .depth)
 
 returns-3 : tie.Need-returns-3
-returns-3 c = let f = c .before .before in c .fault-words2 .ensures ∙ refused (f .before .before) (f .fault3 .given .1) _ refl
+returns-3 c = let k = c .before .before in let f = k .before .before in let s = f .before .before .before in
+    c .fault-words2 .ensures ∙ refused-record (now (s .args .coordinates)) (now (s .args .ix)) (f .fault .result) (f .fault .ensures .0) (k .fault3 .given .1) _ refl (s .args .depth)
 
 returns-4 : tie.Need-returns-4
-returns-4 c = let f = c .before .before in c .fault-words3 .ensures ∙ refused (f .before .before) (f .fault4 .given .1) _ refl
+returns-4 c = let k = c .before .before in let f = k .before .before in let s = f .before .before .before in
+    c .fault-words3 .ensures ∙ refused-record (now (s .args .coordinates)) (now (s .args .ix)) (f .fault .result) (f .fault .ensures .0) (k .fault4 .given .1) _ refl (s .args .depth)
 
 pub element-spec : {M : Type 1} → statement M
 element-spec =

@@ -10,8 +10,8 @@ use Rattle.lot_format.specs.Format.{Lot}
 use Rattle.lot_format.specs.Runs.{lotFrom}
 use Rattle.slip_format.specs.Slip.{slipLimits, refusedLine, inspectedSlip, meshSlip}
 use Rattle.inspection_counts.specs.Meaning.{countsHeld}
-use Rattle.inspector.specs.declared.Inspection.{Inspection as HeldInspection}
-use Rattle.inspector.specs.Meaning.{inspectionHeld}
+use Rattle.inspection_answers.specs.declared.Inspection.{Inspection as HeldInspection}
+use Rattle.inspection_answers.specs.Meaning.{inspectionHeld}
 use Rattle.bytes_output.specs.Behind.{laid-as}
 use Rattle.slip_meshes.proofs.Meshes.{slip-refused, slip-inspected}
 use Rattle.slip_meshes.proofs.mesh_slip.Statement.{statement}

@@ -16,7 +16,7 @@ use Rattle.search_theory.specs.Children.{Ready, ready-first, ready-next, cut-qu
 use Rattle.search_theory.specs.Eighths.{eighth-made}
 use Rattle.search_theory.specs.Bounds.{with-last, extremesOver, extremes-next, extremes-last, child-of}
 use Rattle.wide_array.specs.Values.{values, values-length}
-use Rattle.wide_rows.specs.Word.{largest}
+use Rattle.wide_array.specs.Word.{largest}
 use Rattle.wide_bounds.specs.Meaning.{extremesOf}
 use borrow.Fn.Kinds.{In}
 use borrow.Fn.PlainCycle.{Measures, is, falls, and}

@@ -10,7 +10,7 @@ use Rattle.search_theory.specs.Levels.{wholeOf}
 use Rattle.search_theory.specs.Bounds.{bounds-are}
 use Rattle.wrapping_theory.specs.Words.{value-above}
 use Rattle.wide_array.specs.Values.{values}
-use Rattle.wide_rows.specs.Word.{largest}
+use Rattle.wide_array.specs.Word.{largest}
 use borrow.Author.Needs.{needs}
 use Rattle.wide_bounds.proofs.bounds.Statement.{statement}
 use Rattle.wide_bounds.proofs.bounds.Tie as tie

@@ -18,7 +18,7 @@ use Rattle.search_theory.specs.Meaning.{lowest}
 use Rattle.search_theory.specs.Children.{run-four, run-two, run-one, run-none, child-length, cut-whole, cut-half, cut-quarter}
 use Rattle.search_theory.specs.Eighths.{least-low, least-clear, eighth-made}
 use Rattle.wide_array.specs.Values.{values, values-length}
-use Rattle.wide_rows.specs.Word.{largest}
+use Rattle.wide_array.specs.Word.{largest}
 use borrow.Author.Needs.{needs}
 use Rattle.wide_children.proofs.clear.Statement.{statement}
 use Rattle.wide_children.proofs.clear.Tie as tie

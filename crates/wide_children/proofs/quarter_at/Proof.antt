@@ -8,7 +8,7 @@ use Rattle.definitions.specs.Subdivision.{halve}
 use Rattle.expansion_theory.specs.Control.{Cuttable}
 use Rattle.search_theory.specs.Children.{cut-whole, cut-half}
 use Rattle.wide_array.specs.Values.{values}
-use Rattle.wide_rows.specs.Word.{largest}
+use Rattle.wide_array.specs.Word.{largest}
 use Rattle.wide_children.proofs.quarter_at.Statement.{statement}
 use Rattle.wide_children.proofs.quarter_at.Tie as tie
 

@@ -8,7 +8,7 @@ use Rattle.foundation.specs.Words.{args}
 use Rattle.definitions.specs.Coefficients.{at}
 use Rattle.search_theory.specs.Grid.{lowInRow, betweenLow, across-fits}
 use Rattle.wide_array.specs.Values.{values}
-use Rattle.wide_rows.specs.Word.{largest, cutLargest, can-be-cut}
+use Rattle.wide_array.specs.Word.{largest, cutLargest, can-be-cut}
 use borrow.Author.Needs.{needs}
 use Rattle.wide_grid.proofs.low_between.Statement.{statement}
 use Rattle.wide_grid.proofs.low_between.Tie as tie

@@ -6,7 +6,7 @@ use lib.IntN.{ℤ, natAbs}
 use Rattle.foundation.specs.Words.{args}
 use Rattle.search_theory.specs.Grid.{middle, middles-fit}
 use Rattle.wide_array.specs.Values.{values}
-use Rattle.wide_rows.specs.Word.{largest, cutLargest, can-be-cut}
+use Rattle.wide_array.specs.Word.{largest, cutLargest, can-be-cut}
 use borrow.Author.Needs.{needs}
 use Rattle.wide_grid.proofs.middle_across.Statement.{statement}
 use Rattle.wide_grid.proofs.middle_across.Tie as tie

@@ -8,7 +8,7 @@ use Rattle.foundation.specs.Words.{arg, lit, plus, times, args, within}
 use Rattle.wrapping_theory.specs.Words.{value-fits}
 use Rattle.wrapping_theory.specs.Runs.{run-bounded}
 use Rattle.wide_number.specs.Meaning.{valueOf, modulo}
-use Rattle.wide_rows.specs.Word.{cutLargest}
+use Rattle.wide_array.specs.Word.{cutLargest}
 use borrow.Author.Needs.{needs}
 use Rattle.wide_rows.proofs.end.Statement.{statement}
 use Rattle.wide_rows.proofs.end.Tie as tie

@@ -10,8 +10,8 @@ use Rattle.expansion_theory.specs.Rows.{lineAt}
 use Rattle.expansion_theory.specs.RowLaws.{row-small, turned-start, turned-middle, turned-end}
 use Rattle.wide_number.specs.Meaning.{valueOf}
 use Rattle.wide_array.specs.Values.{values}
-use Rattle.wide_rows.specs.Word.{cutLargest}
-use Rattle.wide_rows.specs.Rows.{read-row, row-within, row-put}
+use Rattle.wide_array.specs.Word.{cutLargest}
+use Rattle.wide_array.specs.Rows.{read-row, row-within, row-put}
 use Rattle.wide_rows.proofs.upper_row.Statement.{statement}
 use Rattle.wide_rows.proofs.upper_row.Tie as tie
 

@@ -12,7 +12,7 @@ use Rattle.search_pass.specs.Meaning.{passWords}
 use Rattle.search_theory.specs.Children.{Ready, after, ready-first, after-some, cut-small, grid-doubled, child-room, child-cell}
 use Rattle.search_theory.specs.Visit.{visit-last, over, rest-of, over-next, over-clear, visit-over, one-held, eight-held, skip-held, next-held}
 use Rattle.wide_array.specs.Values.{values, values-length, value-read}
-use Rattle.wide_rows.specs.Word.{largest}
+use Rattle.wide_array.specs.Word.{largest}
 use borrow.Fn.Kinds.{In}
 use borrow.Fn.PlainCycle.{Measures, is, falls, and}
 use Rattle.wide_search.proofs.visit.Reads as visit

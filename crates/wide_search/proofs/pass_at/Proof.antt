@@ -5,7 +5,7 @@ use lib.IntN.{ℤ, pos}
 use denote.Ref.{now}
 use Rattle.search_theory.specs.Levels.{fresh, whole-room, whole-held}
 use Rattle.wide_array.specs.Values.{values}
-use Rattle.wide_rows.specs.Word.{largest}
+use Rattle.wide_array.specs.Word.{largest}
 use Rattle.search_pass.specs.Meaning.{layout, passWords}
 use borrow.Author.Needs.{needs}
 use Rattle.wide_search.proofs.pass_at.Statement.{statement}

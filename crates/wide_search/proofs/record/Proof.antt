@@ -12,7 +12,7 @@ use Rattle.search_theory.specs.Meaning.{lowest}
 use Rattle.search_theory.specs.Children.{small-less}
 use Rattle.search_theory.specs.Visit.{isBlocked}
 use Rattle.search_theory.specs.Levels.{fresh, settled, settled-clear, Made, made-first, made-next, made-room}
-use Rattle.wide_rows.specs.Word.{largest}
+use Rattle.wide_array.specs.Word.{largest}
 use Rattle.wide_array.specs.Values.{values}
 use Rattle.definitions.specs.Record.{verdictWords, recordOf}
 use Rattle.search_pass.specs.Meaning.{passWords}

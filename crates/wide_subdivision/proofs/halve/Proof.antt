@@ -2,7 +2,7 @@
 use Prim.Native.Nat.{ℕ}
 use native.Mathlib.Omega.{arith}
 use Rattle.expansion_theory.specs.RowLaws.{lower-held, upper-held}
-use Rattle.wide_rows.specs.Rows.{RowsHeld, none-held-yet}
+use Rattle.wide_array.specs.Rows.{RowsHeld, none-held-yet}
 use Rattle.wide_subdivision.proofs.halve.Statement.{statement}
 use Rattle.wide_subdivision.proofs.halve.Tie as tie
 
