@@ -1,6 +1,6 @@
 // The twenty volumes of eight points whose coordinates go to 1,048,576, in numbers of two words: J at the corners and four times J at the edge
 // middles. An inner crate, for `audit_coefficients`: a second way to what `narrow_volumes` and `wide_volumes` give, which shares with them only
-// the vectors between nodes. The volumes are numbers 0 to 19 of a lent array of 27.
+// the vectors between nodes. The volumes are numbers 0 to 19 of a lent array of 27; nothing is said of the other seven.
 ghost use mathlib.Core.Path.{_≡_};
 ghost use mathlib.Core.List.{[], _∷_};
 ghost use Prim.Native.Nat.{_+_, _-_, _<_, _≤_};
@@ -127,7 +127,7 @@ fn put_edges(p: &[i32; 24], out: &mut [u64; 54])
     at_edge(p, 19, 5, 8, 6, 7, 1, 4, out);
 }
 
-// The twenty volumes, corners 1 to 8 and then edges 9 to 20, as the first twenty numbers of out. The other seven are left as they are.
+// The twenty volumes, corners 1 to 8 and then edges 9 to 20, as the first twenty numbers of out.
 pub fn volumes(p: &[i32; 24], out: &mut [u64; 54])
     requires { ⌜ InRange (base .range) (now p) ⌝ ∗ ⌜ length (now out) ≡ 54 ⌝ }
     ensures { λ _. ⌜ take 20 (values (now (out .exit))) ≡ volumes integers (nodesOf (now (p .entry))) ⌝ }

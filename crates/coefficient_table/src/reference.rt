@@ -545,7 +545,7 @@ pub const TABLE: [i64; 540] = [
     1,
 ];
 
-// A copy of the table: what the constant holds is said here. No other function calls it.
+// A copy of the table: what the constant holds is said here. The auditor works its rows from it.
 pub fn copy() -> [i64; 540]
     ensures { λ r. ⌜ IsTable r ⌝ }
 {

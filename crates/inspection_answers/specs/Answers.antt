@@ -1,5 +1,5 @@
 -- The answers of the services case by case, as the code's branches reach them.
-use mathlib.Core.Path.{_≡_, refl, ap, ap₂}
+use mathlib.Core.Path.{_≡_, refl, sym, _∙_, ap, ap₂}
 use mathlib.Core.Bool.{Bool, true, false}
 use mathlib.Core.List.{List}
 use mathlib.Core.Option.{Option, none, some}
@@ -10,7 +10,7 @@ use lib.ListN.{length}
 use lib.IntN.{ℤ}
 use Rattle.definitions.specs.Limits.{Limits}
 use Rattle.definitions.specs.Bounds.{low, high}
-use Rattle.definitions.specs.Mesh.{MeshRefusal, refusal, records, report, countsOf, Inspection, meshAccepted, meshRefused, inspection, reportAfter, outOfRange, Bounds, bounds, tooDeep, outOfLimits, boundsOf}
+use Rattle.definitions.specs.Mesh.{Counts, MeshRefusal, refusal, records, report, countsOf, Inspection, meshAccepted, meshRefused, inspection, reportAfter, outOfRange, Bounds, bounds, tooDeep, outOfLimits, boundsOf}
 
 -- ---- an inspection, by what refuses the mesh
 module _ (L : Limits) (coordinates : List ℤ) (indices : List ℕ) (space : List ℤ) (D : ℕ) where
@@ -42,6 +42,14 @@ module _ (L : Limits) (coordinates : List ℤ) (indices : List ℕ) (space : Lis
 
   pub accepted-space : refusalHere ≡ none → reportAfter L coordinates indices space D ≡ report L coordinates indices D
   accepted-space e = space-is none e
+
+  -- the answer and the space together, as the code has them
+  pub refused-both : (r : MeshRefusal) → refusalHere ≡ some r → (meshRefused r ≡ inspection L coordinates indices (length space) D) × (space ≡ reportAfter L coordinates indices space D)
+  refused-both r e = (sym (refused-answer r e), sym (refused-space r e))
+
+  pub accepted-both : refusalHere ≡ none → {counts : Counts} → counts ≡ countsOf (records L coordinates indices D) → {after : List ℤ} → after ≡ report L coordinates indices D
+      → (meshAccepted counts ≡ inspection L coordinates indices (length space) D) × (after ≡ reportAfter L coordinates indices space D)
+  accepted-both e n a = (ap meshAccepted n ∙ sym (accepted-answer e), a ∙ sym (accepted-space e))
 
 -- ---- the bounds
 module _ (L : Limits) (xs : List ℤ) (D : ℕ) where
