@@ -130,6 +130,14 @@ BrundhalInspection brundhal_inspect(const int32_t *coordinates, size_t coordinat
                                     uint32_t depth,
                                     int64_t *report, size_t report_len);
 
+/* The auditor: a second inspector with its own cut, search and bounds, so that anyone
+ * can run the two beside each other. It takes what brundhal_inspect takes and gives the
+ * same, every word of the answer and of the report; it is slower (docs/PERFORMANCE.md). */
+BrundhalInspection brundhal_audit(const int32_t *coordinates, size_t coordinates_len,
+                                  const uint32_t *indices, size_t indices_len,
+                                  uint32_t depth,
+                                  int64_t *report, size_t report_len);
+
 /* The words of a record by name. */
 #define BRUNDHAL_WORD_KIND 0
 #define BRUNDHAL_WORD_LEVEL 1
@@ -168,6 +176,9 @@ typedef struct {
  * cubes of the depth are gone through, eight times as many with each level: depth 8
  * has 8^8, or 16,777,216, and takes time. */
 BrundhalBounds brundhal_bounds(const int32_t points[24], uint32_t depth);
+
+/* The auditor's bounds: the same answer, found in its own way. */
+BrundhalBounds brundhal_audit_bounds(const int32_t points[24], uint32_t depth);
 
 /* The stamp of an inspection's answer:
  *   0  "sound": at least one element, and every record valid

@@ -1,13 +1,14 @@
 //! Time an element: the built library, an ordinary Rust version with direct
 //! formulas, that version with the library's sparing of clear halves, and the
 //! library's own method in ordinary Rust; the versions with numbers of one word, and
-//! for larger parts with numbers of two.  Time a lot file: the library, and ordinary
+//! for larger parts with numbers of two; and the library's auditor.  Time both bounds of
+//! case F: the library and its auditor.  Time a lot file: the library, and ordinary
 //! Rust readers, a writer and a printer of slips.
 //!
 //! Prints, for lots of 900 elements at depth 3 and for one element at depth 8, the best
-//! of several rounds in microseconds an element and the ratios.  The four reports of
-//! each lot must be the same, word for word; so must be what the readers give of each
-//! file, the writers of each lot and the printers of each slip.
+//! of several rounds in microseconds an element and the ratios.  The five reports of
+//! each lot must be the same, word for word; so must be the bounds, what the readers give
+//! of each file, the writers of each lot and the printers of each slip.
 //! Use: `bench`, or `bench ROUNDS`, or `bench ROUNDS NAME` for the lots, files and
 //! the like whose name begins with NAME.
 
@@ -15,6 +16,7 @@
 // The tests of lengths read as the rules do.
 #![allow(clippy::manual_is_multiple_of)]
 
+mod bounds;
 mod direct;
 mod lots;
 mod mesh;
@@ -35,20 +37,28 @@ use timing::Version;
 
 type Inspect = fn(&[i32], &[u32], u32, &mut [i64]) -> Answer;
 
-fn library(coordinates: &[i32], indices: &[u32], depth: u32, report: &mut [i64]) -> Answer {
-    let answer = brundhal::inspect(coordinates, indices, depth, report);
+fn words(answer: brundhal::Inspection) -> Answer {
     [answer.number, answer.valid, answer.invalid, answer.undecided, answer.refused]
 }
 
-type Versions = [(&'static str, Inspect); 4];
+fn library(coordinates: &[i32], indices: &[u32], depth: u32, report: &mut [i64]) -> Answer {
+    words(brundhal::inspect(coordinates, indices, depth, report))
+}
 
-/// The library, and the versions with numbers of one kind.
+fn auditor(coordinates: &[i32], indices: &[u32], depth: u32, report: &mut [i64]) -> Answer {
+    words(brundhal::audit(coordinates, indices, depth, report))
+}
+
+type Versions = [(&'static str, Inspect); 5];
+
+/// The library, the versions with numbers of one kind, and the auditor.
 fn versions<N: Held>() -> Versions {
     [
         ("library", library),
         ("direct", direct::inspect::<N, false>),
         ("sparing", direct::inspect::<N, true>),
         ("same method", same_method::inspect::<N>),
+        ("auditor", auditor),
     ]
 }
 
@@ -75,7 +85,7 @@ fn version(inspect: Inspect, lot: &Lot) -> Version<'_> {
 }
 
 /// Best time an element of each version, in microseconds.
-fn best(lot: &Lot, rounds: u32, versions: Versions) -> [f64; 4] {
+fn best(lot: &Lot, rounds: u32, versions: Versions) -> [f64; 5] {
     let a_lot = timing::best(rounds, versions.map(|(_, inspect)| version(inspect, lot)));
     a_lot.map(|time| time / lot.elements() as f64)
 }
@@ -107,24 +117,28 @@ fn print(rounds: u32, lots: &[Lot], versions: Versions) -> Result<(), String> {
     }
     println!("microseconds an element, best of {rounds} rounds");
     println!(
-        "  {:26} {:>8} {:>8} {:>8} {:>12} {:>11} {:>11} {:>9}",
+        "  {:26} {:>8} {:>8} {:>8} {:>12} {:>8} {:>11} {:>11} {:>9} {:>8}",
         "lot",
         "library",
         "direct",
         "sparing",
         "same method",
+        "auditor",
         "lib/direct",
         "lib/sparing",
-        "lib/same"
+        "lib/same",
+        "aud/lib"
     );
     for lot in lots {
-        let [library, direct, sparing, same] = best(lot, rounds, versions);
+        let [library, direct, sparing, same, auditor] = best(lot, rounds, versions);
         println!(
-            "  {:26} {library:8.3} {direct:8.3} {sparing:8.3} {same:12.3} {:11.2} {:11.2} {:9.2}",
+            "  {:26} {library:8.3} {direct:8.3} {sparing:8.3} {same:12.3} {auditor:8.3} \
+             {:11.2} {:11.2} {:9.2} {:8.2}",
             lot.name,
             library / direct,
             library / sparing,
-            library / same
+            library / same,
+            auditor / library
         );
     }
     Ok(())
@@ -138,11 +152,12 @@ fn main() -> Result<(), String> {
     let name = std::env::args().nth(2).unwrap_or_default();
     let named = |lots: [Lot; 6]| lots.into_iter().filter(|lot| lot.name.starts_with(&name));
     let lots: Vec<Lot> = named(lots::lots()).collect();
-    println!("lots of {ELEMENTS} elements at depth {DEPTH}; the four reports are the same");
+    println!("lots of {ELEMENTS} elements at depth {DEPTH}; the five reports are the same");
     print(rounds, &lots, versions::<i64>())?;
     let wide: Vec<Lot> = named(wide::lots()).collect();
-    println!("larger parts, in numbers of two words; the four reports are the same");
+    println!("larger parts, in numbers of two words; the five reports are the same");
     print(rounds, &wide, versions::<i128>())?;
+    bounds::print(rounds, &name)?;
     reading::print(rounds, &name)?;
     writing::print(rounds, &name)?;
     slips::print(rounds, &lots)

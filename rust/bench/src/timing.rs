@@ -34,6 +34,13 @@ pub fn best<const N: usize>(rounds: u32, mut versions: [Version; N]) -> [f64; N]
     best
 }
 
+/// What a call gives, and its time in microseconds.
+pub fn once<Given>(call: impl FnOnce() -> Given) -> (Given, f64) {
+    let start = Instant::now();
+    let given = call();
+    (given, start.elapsed().as_secs_f64() * 1e6)
+}
+
 /// The head of a table of the library beside one ordinary version.
 pub fn print_head(what: &str, rounds: u32, column: &str) {
     println!("microseconds to {what}, best of {rounds} rounds");

@@ -280,6 +280,17 @@ mod raw {
         pub value: i64,
     }
 
+    /// `brundhal_inspect` or `brundhal_audit`.
+    pub type Inspector = unsafe extern "C" fn(
+        coordinates: *const i32,
+        coordinates_len: usize,
+        indices: *const u32,
+        indices_len: usize,
+        depth: u32,
+        report: *mut i64,
+        report_len: usize,
+    ) -> Inspection;
+
     extern "C" {
         pub fn brundhal_version() -> u32;
         pub fn brundhal_inspect(
@@ -291,7 +302,17 @@ mod raw {
             report: *mut i64,
             report_len: usize,
         ) -> Inspection;
+        pub fn brundhal_audit(
+            coordinates: *const i32,
+            coordinates_len: usize,
+            indices: *const u32,
+            indices_len: usize,
+            depth: u32,
+            report: *mut i64,
+            report_len: usize,
+        ) -> Inspection;
         pub fn brundhal_bounds(points: *const i32, depth: u32) -> Bounds;
+        pub fn brundhal_audit_bounds(points: *const i32, depth: u32) -> Bounds;
         pub fn brundhal_stamp(answer: Inspection) -> u32;
         pub fn brundhal_child(q: Address, n: u32) -> Move;
         pub fn brundhal_corner(q: Address, n: u32) -> Move;
@@ -373,10 +394,28 @@ pub fn version() -> u32 {
 /// An accepted mesh has every word of the report written; a refused one has
 /// none.
 pub fn inspect(coordinates: &[i32], indices: &[u32], depth: u32, report: &mut [i64]) -> Inspection {
+    inspect_by(raw::brundhal_inspect, coordinates, indices, depth, report)
+}
+
+/// Inspects a mesh by the auditor, a second inspector with its own cut, search and
+/// bounds, so that anyone can run the two beside each other.  It takes what `inspect`
+/// takes and gives the same, every word of the answer and of the report; it is slower.
+pub fn audit(coordinates: &[i32], indices: &[u32], depth: u32, report: &mut [i64]) -> Inspection {
+    inspect_by(raw::brundhal_audit, coordinates, indices, depth, report)
+}
+
+/// By one of the library's two inspectors.
+fn inspect_by(
+    inspector: raw::Inspector,
+    coordinates: &[i32],
+    indices: &[u32],
+    depth: u32,
+    report: &mut [i64],
+) -> Inspection {
     // Three slices that are borrowed for the call, with their own lengths: the
     // library reads the first two and writes the third, each inside its length.
     unsafe {
-        raw::brundhal_inspect(
+        inspector(
             coordinates.as_ptr(),
             coordinates.len(),
             indices.as_ptr(),
@@ -400,6 +439,12 @@ pub fn record_value(record: &[i64; RECORD_WORDS]) -> Number {
 pub fn bounds(points: &[i32; 24], depth: u32) -> Bounds {
     // 24 coordinates, borrowed for the call and only read.
     unsafe { raw::brundhal_bounds(points.as_ptr(), depth) }
+}
+
+/// The auditor's bounds: the same as those of `bounds`, found in its own way.
+pub fn audit_bounds(points: &[i32; 24], depth: u32) -> Bounds {
+    // 24 coordinates, as in `bounds`.
+    unsafe { raw::brundhal_audit_bounds(points.as_ptr(), depth) }
 }
 
 /// The stamp of an inspection's answer; a refused mesh has none.

@@ -80,13 +80,36 @@ fn the_version() {
     assert_eq!(version(), VERSION);
 }
 
+/// The answer of both inspectors, and what both write over these words.
+#[track_caller]
+fn inspect_twice(
+    coordinates: &[i32],
+    indices: &[u32],
+    depth: u32,
+    report: &mut [i64],
+) -> Inspection {
+    let mut audited = report.to_vec();
+    let answer = inspect(coordinates, indices, depth, report);
+    assert_eq!(audit(coordinates, indices, depth, &mut audited), answer);
+    assert_eq!(audited, report);
+    answer
+}
+
+/// The bounds of both.
+#[track_caller]
+fn bounds_twice(points: &[i32; 24], depth: u32) -> Bounds {
+    let both = bounds(points, depth);
+    assert_eq!(audit_bounds(points, depth), both);
+    both
+}
+
 #[test]
 fn empty_runs_are_taken() {
-    assert_eq!(inspect(&[], &[], MAX_DEPTH, &mut []), Inspection::default());
-    assert_eq!(inspect(&[], &[], MAX_DEPTH + 1, &mut []).number, refusal::DEPTH);
-    assert_eq!(inspect(&[0], &[], 3, &mut []).number, refusal::NODES);
-    assert_eq!(inspect(&[], &[0], 3, &mut []).number, refusal::ELEMENTS);
-    assert_eq!(inspect(&[], &[], 3, &mut [0]).number, refusal::REPORT);
+    assert_eq!(inspect_twice(&[], &[], MAX_DEPTH, &mut []), Inspection::default());
+    assert_eq!(inspect_twice(&[], &[], MAX_DEPTH + 1, &mut []).number, refusal::DEPTH);
+    assert_eq!(inspect_twice(&[0], &[], 3, &mut []).number, refusal::NODES);
+    assert_eq!(inspect_twice(&[], &[0], 3, &mut []).number, refusal::ELEMENTS);
+    assert_eq!(inspect_twice(&[], &[], 3, &mut [0]).number, refusal::REPORT);
     let none = Groups::default;
     assert_eq!(read_lot(&[], &mut [], &mut [], GroupSpace::default()).number, 21);
     assert_eq!(read_lot(EMPTY, &mut [], &mut [], GroupSpace::default()).number, 0);
@@ -151,7 +174,7 @@ fn largest_f() -> [i32; 24] {
 
 fn record(points: &[i32; 24], depth: u32) -> [i64; RECORD_WORDS] {
     let mut report = [i64::MIN; RECORD_WORDS];
-    assert_eq!(inspect(points, &VALID, depth, &mut report).number, 0);
+    assert_eq!(inspect_twice(points, &VALID, depth, &mut report).number, 0);
     report
 }
 
@@ -195,7 +218,7 @@ fn the_largest_depth() {
     assert_eq!(larger[word::OPENED], opened);
 
     let mut report = [7; RECORD_WORDS];
-    let refused = inspect(&twisted(2, 2), &VALID, MAX_DEPTH + 1, &mut report);
+    let refused = inspect_twice(&twisted(2, 2), &VALID, MAX_DEPTH + 1, &mut report);
     let number = refusal::DEPTH;
     assert_eq!(refused, Inspection { number, ..Inspection::default() });
     assert_eq!(report, [7; RECORD_WORDS]);
@@ -220,12 +243,33 @@ fn the_largest_coordinates() {
     }
 }
 
+/// Each number with all that is tested after it wrong too: the counts are 0, and the
+/// report space is as it was.
+#[test]
+fn meshes_that_are_refused() {
+    let (nodes, elements) = (vec![0; 3 * (MAX_NODES + 1)], VALID.repeat(MAX_ELEMENTS + 1));
+    let meshes: [(u32, u32, &[i32], &[u32]); 6] = [
+        (refusal::DEPTH, MAX_DEPTH + 1, &nodes[1..], &elements[1..]),
+        (refusal::NODES, MAX_DEPTH, &nodes[1..], &elements[1..]),
+        (refusal::NODES, MAX_DEPTH, &nodes, &elements),
+        (refusal::ELEMENTS, MAX_DEPTH, &nodes[3..], &elements[9..]),
+        (refusal::ELEMENTS, MAX_DEPTH, &nodes[3..], &elements),
+        (refusal::REPORT, MAX_DEPTH, &nodes[3..], &elements[8..]),
+    ];
+    for (number, depth, coordinates, indices) in meshes {
+        let mut report = [7; RECORD_WORDS];
+        let refused = inspect_twice(coordinates, indices, depth, &mut report);
+        assert_eq!(refused, Inspection { number, ..Inspection::default() });
+        assert_eq!(report, [7; RECORD_WORDS]);
+    }
+}
+
 /// Report space of the eight words that a record had before, and of one word too many.
 #[test]
 fn report_space_of_another_length() {
     for words in [8, 10, 0] {
         let mut report = vec![7; words];
-        let refused = inspect(&cube(0, 1), &VALID, 3, &mut report);
+        let refused = inspect_twice(&cube(0, 1), &VALID, 3, &mut report);
         let number = refusal::REPORT;
         assert_eq!(refused, Inspection { number, ..Inspection::default() });
         assert_eq!(report, vec![7; words]);
@@ -238,13 +282,13 @@ fn both_bounds() {
         let [low, high] = [low, high].map(Number::from);
         Bounds { number: 0, low, high }
     };
-    assert_eq!(bounds(&[5; 24], 3), Bounds::default());
-    assert_eq!(bounds(&twisted(1, -1), 1), both(1024, 1024));
-    assert_eq!(bounds(&twisted(2, 2), 3), both(-262_144, 131_072));
-    assert_eq!(bounds(&largest_f(), 3), both(-262_144 << 57, 131_072 << 57));
+    assert_eq!(bounds_twice(&[5; 24], 3), Bounds::default());
+    assert_eq!(bounds_twice(&twisted(1, -1), 1), both(1024, 1024));
+    assert_eq!(bounds_twice(&twisted(2, 2), 3), both(-262_144, 131_072));
+    assert_eq!(bounds_twice(&largest_f(), 3), both(-262_144 << 57, 131_072 << 57));
     for depth in 0..3 {
         let held = 1 << (63 + 3 + 6 * depth);
-        assert_eq!(bounds(&cube(-MAX_COORDINATE, MAX_COORDINATE), depth), both(held, held));
+        assert_eq!(bounds_twice(&cube(-MAX_COORDINATE, MAX_COORDINATE), depth), both(held, held));
     }
 }
 
@@ -252,8 +296,8 @@ fn both_bounds() {
 fn bounds_that_are_refused() {
     let refused = |number: u32| Bounds { number, ..Bounds::default() };
     for past in [MAX_COORDINATE + 1, -MAX_COORDINATE - 1] {
-        assert_eq!(bounds(&[past; 24], MAX_DEPTH), refused(refusal::COORDINATE));
-        assert_eq!(bounds(&[past; 24], MAX_DEPTH + 1), refused(refusal::DEPTH));
+        assert_eq!(bounds_twice(&[past; 24], MAX_DEPTH), refused(refusal::COORDINATE));
+        assert_eq!(bounds_twice(&[past; 24], MAX_DEPTH + 1), refused(refusal::DEPTH));
     }
 }
 
@@ -306,10 +350,10 @@ fn stamps_of_lots() {
         let indices = elements.concat();
         let mut report = vec![0; RECORD_WORDS * elements.len()];
         for depth in 0..=MAX_DEPTH {
-            let answer = inspect(&NODES, &indices, depth, &mut report);
+            let answer = inspect_twice(&NODES, &indices, depth, &mut report);
             assert_eq!(stamp(answer), Some(expected));
         }
-        assert_eq!(stamp(inspect(&NODES, &indices, MAX_DEPTH + 1, &mut report)), None);
+        assert_eq!(stamp(inspect_twice(&NODES, &indices, MAX_DEPTH + 1, &mut report)), None);
         let mut file = vec![0; LOT_BYTES];
         let written = write_lot(b"", &NODES, &indices, Groups::default(), &mut file);
         let length = slip(&file[..written.len as usize], &mut out);
@@ -323,7 +367,7 @@ fn stamps_of_lots() {
 fn expect_refused(nodes: &[i32], element: [u32; 8], words: [i64; RECORD_WORDS]) {
     for depth in 0..=MAX_DEPTH {
         let mut report = [i64::MIN; RECORD_WORDS];
-        let answer = inspect(nodes, &element, depth, &mut report);
+        let answer = inspect_twice(nodes, &element, depth, &mut report);
         assert_eq!(answer, Inspection { refused: 1, ..Inspection::default() });
         assert_eq!(report, words);
     }
@@ -357,7 +401,7 @@ fn a_node_named_twice() {
 #[test]
 fn nodes_at_one_point() {
     let mut report = [7; RECORD_WORDS];
-    let answer = inspect(&[5; 24], &VALID, 3, &mut report);
+    let answer = inspect_twice(&[5; 24], &VALID, 3, &mut report);
     assert_eq!(answer, Inspection { invalid: 1, ..Inspection::default() });
     assert_eq!(report, [1, 0, 0, 0, 0, 1, 0, 0, 1]);
     expect_refused(&[5; 24], [0; 8], [7, 1, 2, 0, 0, 0, 0, 0, 0]);

@@ -1,10 +1,10 @@
-//! One question to both programs: their answers word by word, what 01 says over
-//! depths, and what 02 says of stamps and of writing and reading.
+//! One question to both programs, and to the first one's auditor: their answers word by
+//! word, what 01 says over depths, and what 02 says of stamps and of writing and reading.
 
 use crate::draw::DEPTH;
 use crate::program::{
-    stamped, Answer, AtDepth, Bounds, Inspects, Program, Reckoned, Record, Stamp, IN_ORDER,
-    RECKONED, RECORD_WORDS,
+    stamped, Answer, AtDepth, Bounds, Program, Reckoned, Record, Stamp, IN_ORDER, RECKONED,
+    RECORD_WORDS,
 };
 use crate::question::Question;
 use lent::{Fenced, FENCE};
@@ -55,24 +55,19 @@ struct Inspected {
 
 /// With report space of so many words.
 fn inspected_in(
-    program: &dyn Inspects,
+    program: Program,
     coordinates: &[i32],
     indices: &[u32],
     depth: u32,
     words: usize,
 ) -> Inspected {
     let mut space = Fenced::new(words);
-    let answer = program.inspect(coordinates, indices, depth, space.lent());
-    Inspected { answer, stamp: program.stamp(answer), space }
+    let answer = program.inspects.inspect(coordinates, indices, depth, space.lent());
+    Inspected { answer, stamp: program.stamps.stamp(answer), space }
 }
 
 /// With the report space that the elements need.
-fn inspected(
-    program: &dyn Inspects,
-    coordinates: &[i32],
-    indices: &[u32],
-    depth: u32,
-) -> Inspected {
+fn inspected(program: Program, coordinates: &[i32], indices: &[u32], depth: u32) -> Inspected {
     inspected_in(program, coordinates, indices, depth, indices.len() / 8 * RECORD_WORDS)
 }
 
@@ -177,14 +172,22 @@ fn reckoned_words(answers: Reckoned) -> Words {
     }
 }
 
+/// Whose answers are compared.
+type Two = [&'static str; 2];
+
+const FIRST_AND_SECOND: Two = ["first", "second"];
+const AUDITOR_AND_FIRST: Two = ["auditor", "first"];
+const AUDITOR_AND_SECOND: Two = ["auditor", "second"];
+const AUDITOR_AND_BOTH: Two = ["auditor", "first and the second"];
+
 /// The first word that differs, if any.
-fn difference(first: &Words, second: &Words) -> Option<String> {
+fn difference([one, other]: Two, answer: &Words, others: &[i64]) -> Option<String> {
     let unlike = |(_, (x, y)): &(usize, (&i64, &i64))| x != y;
-    if let Some((place, (x, y))) = first.words.iter().zip(&second.words).enumerate().find(unlike) {
-        return Some(format!("{}: {x} by the first, {y} by the second", (first.name)(place)));
+    if let Some((place, (x, y))) = answer.words.iter().zip(others).enumerate().find(unlike) {
+        return Some(format!("{}: {x} by the {one}, {y} by the {other}", (answer.name)(place)));
     }
-    let apart = first.words.len() != second.words.len();
-    apart.then(|| "answers of different length".to_string())
+    let apart = answer.words.len() != others.len();
+    apart.then(|| format!("answers of different length by the {one} and the {other}"))
 }
 
 // ------------------------------------------------------------- over depths --
@@ -195,7 +198,7 @@ const SHALLOW: u32 = 3;
 
 /// How deep the first program is held on a mesh that is asked at a depth: to the largest
 /// one where this depth leaves nothing undecided.
-fn depth_held(program: &dyn Inspects, coordinates: &[i32], indices: &[u32], depth: u32) -> u32 {
+fn depth_held(program: Program, coordinates: &[i32], indices: &[u32], depth: u32) -> u32 {
     let depth = depth.max(SHALLOW);
     let [_, _, _, undecided, _] = inspected(program, coordinates, indices, depth).answer;
     if undecided == 0 {
@@ -207,14 +210,36 @@ fn depth_held(program: &dyn Inspects, coordinates: &[i32], indices: &[u32], dept
 
 /// The first program on one element: its records to `depth` at least, its bounds to
 /// `bounds` at least.
-fn held_element(
-    program: &dyn Inspects,
+fn held_element(program: Program, points: &[i32; 24], depth: u32, bounds: u32) -> Vec<AtDepth> {
+    let depth = depth_held(program, points, &IN_ORDER, depth.max(bounds));
+    program.inspects.over_depths(points, depth, bounds.max(SHALLOW))
+}
+
+/// Where the auditor differs on one element from the second program, or from the first
+/// inspector wherever that is held: to a depth at most.
+fn audited_fault(
+    first: Program,
     points: &[i32; 24],
     depth: u32,
-    bounds: u32,
-) -> Vec<AtDepth> {
-    let depth = depth_held(program, points, &IN_ORDER, depth.max(bounds));
-    program.over_depths(points, depth, bounds.max(SHALLOW))
+    seen: &[AtDepth],
+    others: &[AtDepth],
+) -> Option<String> {
+    let with_bounds = seen.iter().filter(|at| at.bounds.is_some()).count();
+    let [to, bounds] = [seen.len(), with_bounds].map(|depths| depth.min(depths as u32 - 1));
+    let audited = first.audits.over_depths(points, to, bounds);
+    let beside = |two: Two, others: &[AtDepth]| {
+        difference(two, &in_common(&audited, others), &in_common(others, &audited).words)
+    };
+    beside(AUDITOR_AND_SECOND, others).or_else(|| beside(AUDITOR_AND_FIRST, seen))
+}
+
+/// What was seen at the depths of both, with the bounds that both have.
+fn in_common(seen: &[AtDepth], others: &[AtDepth]) -> Words {
+    let common = |(at, other): (&AtDepth, &AtDepth)| AtDepth {
+        bounds: at.bounds.filter(|_| other.bounds.is_some()),
+        ..*at
+    };
+    over_depths_words(&seen.iter().zip(others).map(common).collect::<Vec<_>>())
 }
 
 /// 01's demand 3 for one element, from the lesser depth's words and the next
@@ -295,18 +320,26 @@ fn stamp_and_report(mesh: &Inspected) -> Option<String> {
 }
 
 /// The stamps of an accepted mesh, asked at a depth, over depths, and demand 3 for its
-/// elements: their records in all reports, and the bounds of their points.
+/// elements: their records in all reports, and the bounds of their points.  The auditor
+/// answers and writes the same at every depth.
 fn mesh_over_depths_fault(
-    program: &dyn Inspects,
+    program: Program,
     coordinates: &[i32],
     indices: &[u32],
     depth: u32,
 ) -> Option<String> {
     let depth = depth_held(program, coordinates, indices, depth);
-    let at = |depth| inspected(program, coordinates, indices, depth);
-    let meshes: Vec<Inspected> = (0..=depth).map(at).collect();
+    let at = |program: Program, depth: u32| inspected(program, coordinates, indices, depth);
+    let meshes: Vec<Inspected> = (0..=depth).map(|depth| at(program, depth)).collect();
+    let audited = |(depth, mesh): (u32, &Inspected)| {
+        let audited = inspected_words(&at(program.auditing(), depth));
+        let what = difference(AUDITOR_AND_FIRST, &audited, &inspected_words(mesh).words)?;
+        Some(format!("at depth {depth}, {what}"))
+    };
     let stamps = meshes.iter().find_map(stamp_and_report);
-    stamps.or_else(|| elements_over_depths_fault(program, coordinates, indices, &meshes))
+    stamps
+        .or_else(|| elements_over_depths_fault(program, coordinates, indices, &meshes))
+        .or_else(|| (0..).zip(&meshes).find_map(audited))
 }
 
 /// An element's eight points; or the number that its indices alone are refused with
@@ -323,7 +356,7 @@ fn points_by_indices(coordinates: &[i32], element: &[u32]) -> Result<[i32; 24], 
 
 /// Demand 3 for every element of an accepted mesh, seen over depths.
 fn elements_over_depths_fault(
-    program: &dyn Inspects,
+    program: Program,
     coordinates: &[i32],
     indices: &[u32],
     meshes: &[Inspected],
@@ -334,7 +367,7 @@ fn elements_over_depths_fault(
             answer: mesh.answer,
             record: std::array::from_fn(|word| mesh.space.inner()[RECORD_WORDS * number + word]),
             bounds: (depth <= SHALLOW).then(|| match points {
-                Ok(points) => program.bounds(&points, depth),
+                Ok(points) => program.inspects.bounds(&points, depth),
                 Err(refusal) => (refusal, 0, 0),
             }),
         };
@@ -354,17 +387,32 @@ fn compared(
     second: Program,
 ) -> Result<Vec<i64>, Difference> {
     let answer = ask(first);
-    match difference(&answer, &ask(second)) {
+    match difference(FIRST_AND_SECOND, &answer, &ask(second).words) {
         None => Ok(answer.words),
         Some(what) => Err(Difference::new(question, what)),
     }
 }
 
-/// Asks both programs; every word of the first one's answer, if they agree and the
-/// rules hold of the first.  Those over depths are tested on an accepted mesh, an
-/// element, and bounds that are not refused: to depth 3 or the one that is asked, and to
-/// the largest where that leaves nothing undecided; that of the stamp on an accepted mesh
-/// likewise; those of reading and writing on every lot that is read or written.
+/// The same, and then the answer of the first one's auditor.
+fn compared_and_audited(
+    question: &Question,
+    ask: impl Fn(Program) -> Words,
+    first: Program,
+    second: Program,
+) -> Result<Vec<i64>, Difference> {
+    let words = compared(question, &ask, first, second)?;
+    match difference(AUDITOR_AND_BOTH, &ask(first.auditing()), &words) {
+        None => Ok(words),
+        Some(what) => Err(Difference::new(question, what)),
+    }
+}
+
+/// Asks both programs and the first one's auditor; every word of the first one's answer,
+/// if they agree and the rules hold of the first.  Those over depths are tested on an
+/// accepted mesh, an element, and bounds that are not refused: to depth 3 or the one that
+/// is asked, and to the largest where that leaves nothing undecided; there the auditor
+/// says the same as the first.  That of the stamp is tested on an accepted mesh likewise;
+/// those of reading and writing on every lot that is read or written.
 pub fn ask(first: Program, second: Program, question: &Question) -> Result<Vec<i64>, Difference> {
     let fault = |what: Option<String>| match what {
         None => Ok(()),
@@ -373,17 +421,16 @@ pub fn ask(first: Program, second: Program, question: &Question) -> Result<Vec<i
     match question {
         Question::Inspect { depth, space, coordinates, indices } => {
             let ask = |program: Program| {
-                let (program, depth) = (program.inspects, *depth);
-                inspected_words(&inspected_in(program, coordinates, indices, depth, *space))
+                inspected_words(&inspected_in(program, coordinates, indices, *depth, *space))
             };
-            let words = compared(question, ask, first, second)?;
+            let words = compared_and_audited(question, ask, first, second)?;
             if words[0] == 0 {
-                fault(mesh_over_depths_fault(first.inspects, coordinates, indices, *depth))?;
+                fault(mesh_over_depths_fault(first, coordinates, indices, *depth))?;
             }
             Ok(words)
         }
-        Question::Element { depth, bounds, points } => {
-            let seen = held_element(first.inspects, points, *depth, *bounds);
+        Question::Element { depth, bounds, audit, points } => {
+            let seen = held_element(first, points, *depth, *bounds);
             let asked = |(at_depth, at): (u32, &AtDepth)| AtDepth {
                 bounds: at.bounds.filter(|_| at_depth <= *bounds),
                 ..*at
@@ -391,33 +438,35 @@ pub fn ask(first: Program, second: Program, question: &Question) -> Result<Vec<i
             let asked: Vec<AtDepth> = (0..=*depth).zip(&seen).map(asked).collect();
             let others = second.inspects.over_depths(points, *depth, *bounds);
             let words = over_depths_words(&asked);
-            fault(difference(&words, &over_depths_words(&others)))?;
+            fault(difference(FIRST_AND_SECOND, &words, &over_depths_words(&others).words))?;
             fault(over_depths_fault(Some(points), &seen))?;
+            fault(audited_fault(first, points, *audit, &seen, &others))?;
             Ok(words.words)
         }
         Question::Bounds { depth, points } => {
             let ask = |program: Program| bounds_words(program.inspects.bounds(points, *depth));
-            let words = compared(question, ask, first, second)?;
+            let words = compared_and_audited(question, ask, first, second)?;
             if words[0] == 0 {
-                let seen = held_element(first.inspects, points, SHALLOW, *depth);
+                let seen = held_element(first, points, SHALLOW, *depth);
                 fault(over_depths_fault(Some(points), &seen))?;
+                fault(audited_fault(first, points, DEPTH, &seen, &[]))?;
             }
             Ok(words)
         }
         Question::Child { address, n } => {
-            let ask = |program: Program| move_words(program.inspects.child(*address, *n));
+            let ask = |program: Program| move_words(program.moves.child(*address, *n));
             compared(question, ask, first, second)
         }
         Question::Corner { address, n } => {
-            let ask = |program: Program| move_words(program.inspects.corner(*address, *n));
+            let ask = |program: Program| move_words(program.moves.corner(*address, *n));
             compared(question, ask, first, second)
         }
         Question::Parent { address } => {
-            let ask = |program: Program| move_words(program.inspects.parent(*address));
+            let ask = |program: Program| move_words(program.moves.parent(*address));
             compared(question, ask, first, second)
         }
         Question::Stamp { answer } => {
-            let ask = |program: Program| stamp_words(program.inspects.stamp(*answer));
+            let ask = |program: Program| stamp_words(program.stamps.stamp(*answer));
             compared(question, ask, first, second)
         }
         Question::Read { space, file } => {

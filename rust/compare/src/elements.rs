@@ -3,6 +3,7 @@
 
 use crate::check::{element_said, of_two_words};
 use crate::draw::{self, once_in, one_of, Kind, DEPTH, KINDS, OLD_RANGE, RANGE};
+use crate::program::Record;
 use crate::question::Question;
 use crate::service::{made, Draw, Service};
 use second::specimens::{cube, rings_exchanged, Points, Shaker};
@@ -54,8 +55,14 @@ pub const DEEP_BOUNDS: Service = Service {
     needed: needed_of_deep_bounds,
 };
 
+/// With the auditor at every depth.
 fn question(depth: u32, bounds: u32, points: [i32; 24]) -> Question {
-    Question::Element { depth, bounds, points }
+    audited_to(DEPTH, depth, bounds, points)
+}
+
+/// With the auditor, which is slower, to a depth.
+fn audited_to(audit: u32, depth: u32, bounds: u32, points: [i32; 24]) -> Question {
+    Question::Element { depth, bounds, audit, points }
 }
 
 // ------------------------------------------------------------------ listed --
@@ -132,7 +139,8 @@ fn sound(shaker: &mut Shaker, range: i64) -> [i32; 24] {
     draw::narrow(cube(-6 * by, 6 * by).map(|x| x + shaker.between(-by, by)))
 }
 
-/// Two sound elements and case F at the largest depth; others not so deep.
+/// Two sound elements and case F at the largest depth, where the auditor is asked about
+/// the last alone; others not so deep.
 fn with_deep_bounds() -> Vec<Question> {
     let mut shaker = Shaker::new(8);
     let sound = [RANGE, OLD_RANGE].map(|range| sound(&mut shaker, range));
@@ -142,8 +150,8 @@ fn with_deep_bounds() -> Vec<Question> {
         question(6, 6, valid_from(5)),
         question(6, 6, mirrored),
         question(DEPTH, DEPTH, f),
-        question(DEPTH, DEPTH, sound[0]),
-        question(DEPTH, DEPTH, sound[1]),
+        audited_to(5, DEPTH, DEPTH, sound[0]),
+        audited_to(5, DEPTH, DEPTH, sound[1]),
     ]
 }
 
@@ -296,15 +304,27 @@ fn reaching(end: i64) -> String {
     format!("reaching to {end} at depths 3 and 4")
 }
 
-/// Of an element's answer: every verdict in it, once, and what its last record and bounds
-/// are.
+/// Of an element's answer: what is met in it, and again what is met at the depths that
+/// the auditor was asked at.
 fn met(question: &Question, words: &[i64]) -> Vec<String> {
-    let Question::Element { depth, bounds, points } = question else {
+    let Question::Element { audit, points, .. } = question else {
         unreachable!("an element");
     };
     let (records, both) = element_said(words);
+    let to_audit = |length: usize| length.min(*audit as usize + 1);
+    let (audited_records, audited_both) =
+        (&records[..to_audit(records.len())], &both[..to_audit(both.len())]);
+    let by_the_auditor = met_in(points, audited_records, audited_both);
+    let mut met = met_in(points, &records, &both);
+    met.extend(by_the_auditor.into_iter().map(audited));
+    met
+}
+
+/// Every verdict, once, and what the last record and bounds are.
+fn met_in(points: &[i32; 24], records: &[Record], both: &[[i128; 2]]) -> Vec<String> {
     let mut met: Vec<String> = records.iter().map(|record| verdict(record)).collect();
     met.dedup();
+    let [depth, bounds] = [records.len(), both.len()].map(|depths| depths as u32 - 1);
     let last = records.last().expect("a record");
     let kind = kind(last);
     let [low, high] = both.last().expect("bounds at depth 0 at least");
@@ -312,15 +332,24 @@ fn met(question: &Question, words: &[i64]) -> Vec<String> {
         past_64_bits(&bound_of(name, if bound > 0 { "above" } else { "below" }), bound)
     };
     let more = [
-        (*depth > EVERY_CUBE).then(|| asked_to(*depth, &kind)),
-        (*bounds > EVERY_CUBE).then(|| bounded_to(*bounds, &kind)),
+        (depth > EVERY_CUBE).then(|| asked_to(depth, &kind)),
+        (bounds > EVERY_CUBE).then(|| bounded_to(bounds, &kind)),
         past_64_bits(&value_of(&kind), of_two_words(&last[6..8])),
         signed("low", *low),
         signed("high", *high),
-        at_an_old_end(points).filter(|_| *depth > EVERY_CUBE),
+        at_an_old_end(points).filter(|_| depth > EVERY_CUBE),
     ];
     met.extend(more.into_iter().flatten());
     met
+}
+
+fn audited(what: String) -> String {
+    format!("audited: {what}")
+}
+
+/// All of it by the first inspector and by the auditor.
+fn by_both(needed: impl Iterator<Item = String>) -> Vec<String> {
+    needed.flat_map(|what| [what.clone(), audited(what)]).collect()
 }
 
 /// The verdicts of a kind at these levels or depths.
@@ -338,21 +367,25 @@ fn needed_of_elements() -> Vec<String> {
         .into_iter()
         .flat_map(|name| ["above", "below"].map(|sign| past_65_bits(&bound_of(name, sign))));
     let to_4 = KIND_NAMES.map(|kind| asked_to(4, kind));
-    (at(0, 0..=2).chain(at(1, 0..=2)).chain(at(2, 0..=4)))
-        .chain(values_past_65_bits())
-        .chain(signs)
-        .chain(OLD_ENDS.map(reaching))
-        .chain(to_4)
-        .collect()
+    by_both(
+        (at(0, 0..=2).chain(at(1, 0..=2)).chain(at(2, 0..=4)))
+            .chain(values_past_65_bits())
+            .chain(signs)
+            .chain(OLD_ENDS.map(reaching))
+            .chain(to_4),
+    )
 }
 
 fn needed_deep() -> Vec<String> {
-    (at(0, 0..=DEPTH).chain(at(1, 0..=DEPTH)).chain(at(2, 0..=DEPTH)))
-        .chain(KIND_NAMES.map(|kind| asked_to(DEPTH, kind)))
-        .chain(values_past_65_bits())
-        .collect()
+    by_both(
+        (at(0, 0..=DEPTH).chain(at(1, 0..=DEPTH)).chain(at(2, 0..=DEPTH)))
+            .chain(KIND_NAMES.map(|kind| asked_to(DEPTH, kind)))
+            .chain(values_past_65_bits()),
+    )
 }
 
+/// The auditor's once, of case F.
 fn needed_of_deep_bounds() -> Vec<String> {
-    ["valid", "undecided"].map(|kind| bounded_to(DEPTH, kind)).to_vec()
+    let [valid, undecided] = ["valid", "undecided"].map(|kind| bounded_to(DEPTH, kind));
+    vec![valid, undecided.clone(), audited(undecided)]
 }

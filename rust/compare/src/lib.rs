@@ -5,6 +5,8 @@
 //! of a lot that is read or written also every word of the lent space, and the label
 //! with its place; of an element's name its place; of a slip every byte; of numbers of
 //! two words both words of every sum, difference, product and the like.
+//! The library's auditor, a second inspector, is asked for every report and for bounds
+//! too, and its words are compared with those of both.
 //! What 01 says over depths is tested on the library's answers for every
 //! element, accepted mesh and bounds, that the stamp is the one that the records give on
 //! every accepted mesh, and what 02 says of writing and reading on every lot that is

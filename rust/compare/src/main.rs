@@ -1,4 +1,4 @@
-//! Runs the built library beside the second program.
+//! Runs the built library, with its auditor, beside the second program.
 //!
 //! `compare SEED COUNT`: the whole run, with COUNT random elements.
 //! `compare lots SEED COUNT`: its lots alone.

@@ -61,6 +61,10 @@ pub type SlipSpace = [u8; SLIP_BYTES];
 #[derive(Clone, Copy)]
 pub struct Program<'a> {
     pub inspects: &'a dyn Inspects,
+    /// The auditor; in a program that has one inspector alone, that one.
+    pub audits: &'a dyn Inspects,
+    pub stamps: &'a dyn Stamps,
+    pub moves: &'a dyn Moves,
     pub reads: &'a dyn Reads,
     pub writes: &'a dyn Writes,
     pub names: &'a dyn Names,
@@ -68,7 +72,14 @@ pub struct Program<'a> {
     pub reckons: &'a dyn Reckons,
 }
 
-/// The services of 01.
+impl<'a> Program<'a> {
+    /// The same with its auditor in the inspector's place.
+    pub fn auditing(self) -> Program<'a> {
+        Program { inspects: self.audits, ..self }
+    }
+}
+
+/// An inspector, with its bounds.
 pub trait Inspects: Sync {
     fn inspect(
         &self,
@@ -78,10 +89,6 @@ pub trait Inspects: Sync {
         report: &mut [i64],
     ) -> Answer;
     fn bounds(&self, points: &[i32; 24], depth: u32) -> Bounds;
-    fn stamp(&self, answer: Answer) -> Option<Stamp>;
-    fn child(&self, address: Address, n: u32) -> Move;
-    fn corner(&self, address: Address, n: u32) -> Move;
-    fn parent(&self, address: Address) -> Move;
 
     /// Eight points in range, at every depth from 0 to `depth`; their bounds at every
     /// depth from 0 to `bounds`.
@@ -94,6 +101,17 @@ pub trait Inspects: Sync {
         };
         (0..=depth).map(at_depth).collect()
     }
+}
+
+pub trait Stamps: Sync {
+    fn stamp(&self, answer: Answer) -> Option<Stamp>;
+}
+
+/// Moves of addresses.
+pub trait Moves: Sync {
+    fn child(&self, address: Address, n: u32) -> Move;
+    fn corner(&self, address: Address, n: u32) -> Move;
+    fn parent(&self, address: Address) -> Move;
 }
 
 pub trait Reads: Sync {
@@ -189,8 +207,14 @@ pub const PATTERN: i64 = 0x5A5A_A5A5_DEAD_0001;
 /// The built library.
 pub struct Product;
 
+/// Its auditor.
+pub struct Auditor;
+
 pub const PRODUCT: Program = Program {
     inspects: &Product,
+    audits: &Auditor,
+    stamps: &Product,
+    moves: &Product,
     reads: &Product,
     writes: &Product,
     names: &Product,
@@ -215,6 +239,14 @@ fn lent_groups(groups: &Groups) -> brundhal::Groups<'_> {
     brundhal::Groups { names, lengths, offsets }
 }
 
+fn answered(answer: brundhal::Inspection) -> Answer {
+    [answer.number, answer.valid, answer.invalid, answer.undecided, answer.refused]
+}
+
+fn bounded(answer: brundhal::Bounds) -> Bounds {
+    (answer.number, answer.low.into(), answer.high.into())
+}
+
 impl Inspects for Product {
     fn inspect(
         &self,
@@ -223,21 +255,39 @@ impl Inspects for Product {
         depth: u32,
         report: &mut [i64],
     ) -> Answer {
-        let answer = brundhal::inspect(coordinates, indices, depth, report);
-        [answer.number, answer.valid, answer.invalid, answer.undecided, answer.refused]
+        answered(brundhal::inspect(coordinates, indices, depth, report))
     }
 
     fn bounds(&self, points: &[i32; 24], depth: u32) -> Bounds {
-        let answer = brundhal::bounds(points, depth);
-        (answer.number, answer.low.into(), answer.high.into())
+        bounded(brundhal::bounds(points, depth))
+    }
+}
+
+impl Inspects for Auditor {
+    fn inspect(
+        &self,
+        coordinates: &[i32],
+        indices: &[u32],
+        depth: u32,
+        report: &mut [i64],
+    ) -> Answer {
+        answered(brundhal::audit(coordinates, indices, depth, report))
     }
 
+    fn bounds(&self, points: &[i32; 24], depth: u32) -> Bounds {
+        bounded(brundhal::audit_bounds(points, depth))
+    }
+}
+
+impl Stamps for Product {
     fn stamp(&self, answer: Answer) -> Option<Stamp> {
         let [number, valid, invalid, undecided, refused] = answer;
         let answer = brundhal::Inspection { number, valid, invalid, undecided, refused };
         brundhal::stamp(answer)
     }
+}
 
+impl Moves for Product {
     fn child(&self, address: Address, n: u32) -> Move {
         moved(place(address).child(n))
     }
@@ -343,6 +393,9 @@ pub struct Second;
 
 pub const SECOND: Program = Program {
     inspects: &Second,
+    audits: &Second,
+    stamps: &Second,
+    moves: &Second,
     reads: &Second,
     writes: &Second,
     names: &Second,
@@ -406,24 +459,6 @@ impl Inspects for Second {
         (answer.number, answer.low, answer.high)
     }
 
-    fn stamp(&self, answer: Answer) -> Option<Stamp> {
-        let [number, valid, invalid, undecided, refused] = answer;
-        let answer = second::Inspection { number, valid, invalid, undecided, refused };
-        second::stamp(&answer).map(stamped)
-    }
-
-    fn child(&self, address: Address, n: u32) -> Move {
-        said(cube(address).child(n, &Limits::base()))
-    }
-
-    fn corner(&self, address: Address, n: u32) -> Move {
-        said(cube(address).corner(n, &Limits::base()))
-    }
-
-    fn parent(&self, address: Address) -> Move {
-        said(cube(address).parent(&Limits::base()))
-    }
-
     /// Each level looked at once, for all depths: to `bounds` for both, which to depth
     /// `second::EVERY_CUBE` is by every cube, and then for the records alone.
     fn over_depths(&self, points: &[i32; 24], depth: u32, bounds: u32) -> Vec<AtDepth> {
@@ -441,6 +476,28 @@ impl Inspects for Second {
             seen.extend(deeper.map(|record| said(record, None)));
         }
         seen
+    }
+}
+
+impl Stamps for Second {
+    fn stamp(&self, answer: Answer) -> Option<Stamp> {
+        let [number, valid, invalid, undecided, refused] = answer;
+        let answer = second::Inspection { number, valid, invalid, undecided, refused };
+        second::stamp(&answer).map(stamped)
+    }
+}
+
+impl Moves for Second {
+    fn child(&self, address: Address, n: u32) -> Move {
+        said(cube(address).child(n, &Limits::base()))
+    }
+
+    fn corner(&self, address: Address, n: u32) -> Move {
+        said(cube(address).corner(n, &Limits::base()))
+    }
+
+    fn parent(&self, address: Address) -> Move {
+        said(cube(address).parent(&Limits::base()))
     }
 }
 

@@ -16,10 +16,12 @@ pub enum Question {
     },
     /// Eight points, all in range, at every depth from 0 to `depth`: the
     /// inspection of the mesh of this one element, and to depth `bounds` the bounds.
-    /// The first program answers at greater depths as well.
+    /// The first program answers at greater depths as well; its auditor wherever it
+    /// answers, to depth `audit`.
     Element {
         depth: u32,
         bounds: u32,
+        audit: u32,
         points: [i32; 24],
     },
     /// The bounds of any eight points at one depth.
@@ -98,8 +100,8 @@ impl fmt::Display for Question {
                 put_run(f, coordinates)?;
                 put_run(f, indices)
             }
-            Question::Element { depth, bounds, points } => {
-                write!(f, "element {depth} {bounds}")?;
+            Question::Element { depth, bounds, audit, points } => {
+                write!(f, "element {depth} {bounds} {audit}")?;
                 put(f, points)
             }
             Question::Bounds { depth, points } => {
@@ -190,9 +192,12 @@ impl Numbers<'_> {
                 coordinates: self.run()?,
                 indices: self.run()?,
             },
-            "element" => {
-                Question::Element { depth: self.one()?, bounds: self.one()?, points: self.array()? }
-            }
+            "element" => Question::Element {
+                depth: self.one()?,
+                bounds: self.one()?,
+                audit: self.one()?,
+                points: self.array()?,
+            },
             "bounds" => Question::Bounds { depth: self.one()?, points: self.array()? },
             "child" => Question::Child { n: self.one()?, address: self.array()? },
             "corner" => Question::Corner { n: self.one()?, address: self.array()? },

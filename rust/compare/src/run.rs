@@ -138,6 +138,9 @@ fn shaker_for(seed: u64, part: u64, turn: usize) -> Shaker {
 /// What `ask` tests beside the second program's answer.
 const OVER_DEPTHS: &str = "held over depths";
 
+/// Whom it asks besides: the first program's auditor.
+const BY_BOTH: &str = "by both inspectors";
+
 /// The cases of 01 at every depth, against what 01 prints too; case F, which is
 /// undecided at every depth, to depth 6.
 fn worked_cases(pair: Pair) -> Result<String, Difference> {
@@ -152,20 +155,21 @@ fn worked_cases(pair: Pair) -> Result<String, Difference> {
             pair.ask_again(&Question::Bounds { depth, points: case.points })?;
         }
         if case.is_whole() {
-            pair.ask(&Question::Element { depth: 4, bounds: 3, points: case.points })?;
+            pair.ask(&Question::Element { depth: 4, bounds: 3, audit: 4, points: case.points })?;
         }
     }
-    Ok("A to I and the cube from -1,048,576 to 1,048,576".to_string())
+    Ok(format!("A to I and the cube from -1,048,576 to 1,048,576, {BY_BOTH}"))
 }
 
 /// The paper's figures, rounded at several scales.  01: "run and noted, no
 /// verdict is demanded."  At depth 3, and where that does not decide at the largest.
 fn paper_figures(pair: Pair) -> Result<String, Difference> {
-    let mut lines = String::from("verdicts (units a figure unit, record)");
+    let mut lines = format!("verdicts {BY_BOTH} (units a figure unit, record)");
     for figure in figures() {
         for scale in figure.scales {
             let points = rounded(&figure, scale);
-            let words = pair.ask(&Question::Element { depth: DEPTH, bounds: 3, points })?;
+            let words =
+                pair.ask(&Question::Element { depth: DEPTH, bounds: 3, audit: DEPTH, points })?;
             let (records, _) = element_said(&words);
             let deeper = (records[3][0] == 2).then_some(&records[DEPTH as usize]);
             for record in [Some(&records[3]), deeper].into_iter().flatten() {
@@ -225,7 +229,8 @@ fn refusals(pair: Pair) -> Result<String, Difference> {
     })?;
     are_met(&tally, (0..=4).map(numbered));
     let said = in_words(&tally);
-    Ok(format!("{} meshes, those of number 0 {OVER_DEPTHS}, {said}", questions.len()))
+    let asked = questions.len();
+    Ok(format!("{asked} meshes {BY_BOTH}, those of number 0 {OVER_DEPTHS}, {said}"))
 }
 
 /// Every way in which eight places can share nodes: each place has the index of
@@ -267,7 +272,7 @@ fn coordinates_at_the_ends(pair: Pair) -> Result<String, Difference> {
         Ok(())
     })?;
     are_met(&tally, [0, 1, 6].map(of_the_bounds).into_iter().chain([verdict(&[6])]));
-    Ok(in_words(&tally))
+    Ok(format!("{BY_BOTH}, {}", in_words(&tally)))
 }
 
 /// All of these over case A's nodes, with fewer nodes, and with one coordinate out of
@@ -299,8 +304,8 @@ fn shared_nodes(pair: Pair) -> Result<String, Difference> {
     })?;
     assert_eq!(ways.len(), 4140, "as many as a set of eight has partitions");
     are_met(&tally, [5, 6, 7].map(|number| verdict(&[number])));
-    let said = in_words(&tally);
-    Ok(format!("{} ways over {} runs of nodes, {OVER_DEPTHS}, {said}", ways.len(), nodes.len()))
+    let (ways, runs, said) = (ways.len(), nodes.len(), in_words(&tally));
+    Ok(format!("{ways} ways over {runs} runs of nodes {BY_BOTH}, {OVER_DEPTHS}, {said}"))
 }
 
 /// Random meshes with anything wrong in them.
@@ -319,7 +324,9 @@ fn meshes(pair: Pair, plan: Plan) -> Result<String, Difference> {
     })?;
     let said = in_words(&tally);
     let asked = plan.meshes;
-    Ok(format!("{asked} meshes and as many bounds, those of number 0 {OVER_DEPTHS}, {said}"))
+    Ok(format!(
+        "{asked} meshes and as many bounds {BY_BOTH}, those of number 0 {OVER_DEPTHS}, {said}"
+    ))
 }
 
 /// Moves of addresses of every level to past the largest, with small grid numbers and
@@ -496,7 +503,8 @@ pub fn run_lots(pair: Pair, plan: Plan, say: &dyn Fn(String)) -> Result<(), Diff
 /// Elements: records and bounds over the whole range and at every depth.
 pub fn run_elements(pair: Pair, plan: Plan, say: &dyn Fn(String)) -> Result<(), Difference> {
     say(format!(
-        "elements: all {OVER_DEPTHS} 0 to 3 and those that are asked, the decided ones 0 to {DEPTH}; \
+        "elements: {BY_BOTH}, what the auditor answers is counted again as audited; \
+         all {OVER_DEPTHS} 0 to 3 and those that are asked, the decided ones 0 to {DEPTH}; \
          for a valid one J is above 0 at {POINTS_A_LEVEL} points of each of the levels {FINER_LEVELS:?}"
     ));
     let services = [(30, DEEP), (50, DEEP_BOUNDS), (70, ELEMENTS)];
@@ -506,9 +514,9 @@ pub fn run_elements(pair: Pair, plan: Plan, say: &dyn Fn(String)) -> Result<(), 
 /// One part of a run.
 type Part<'a> = (&'a str, &'a dyn Fn() -> Result<String, Difference>);
 
-/// Everything, part by part; what each came to is said in a line.
-pub fn run(pair: Pair, plan: Plan, say: &dyn Fn(String)) -> Result<(), Difference> {
-    say(format!("seed {}", plan.seed));
+/// Meshes, addresses, stamps and numbers, part by part; what each came to is said in a
+/// line.
+pub fn run_meshes(pair: Pair, plan: Plan, say: &dyn Fn(String)) -> Result<(), Difference> {
     let parts: [Part; 9] = [
         ("worked cases", &|| worked_cases(pair)),
         ("figures of the paper", &|| paper_figures(pair)),
@@ -525,6 +533,13 @@ pub fn run(pair: Pair, plan: Plan, say: &dyn Fn(String)) -> Result<(), Differenc
         let said = part()?;
         say(format!("{name}: {said} ({:.1} s)", start.elapsed().as_secs_f64()));
     }
+    Ok(())
+}
+
+/// Everything.
+pub fn run(pair: Pair, plan: Plan, say: &dyn Fn(String)) -> Result<(), Difference> {
+    say(format!("seed {}", plan.seed));
+    run_meshes(pair, plan, say)?;
     run_elements(pair, plan, say)?;
     run_lots(pair, plan, say)
 }

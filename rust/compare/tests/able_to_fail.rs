@@ -61,10 +61,14 @@ fn finds_it_again(pair: Pair, found: &Difference) {
     assert_eq!(pair.ask_again(&question).as_ref(), Err(found));
 }
 
-/// A wrong program beside the library is caught, and the question that is printed
+/// A program in the second place, beside the library.
+fn beside_the_library(second: Program) -> Pair {
+    Pair { first: PRODUCT, second }
+}
+
+/// What is wrong in one place of a pair is caught, and the question that is printed
 /// catches it again.
-fn is_caught(fault: impl Debug, wrong: Program, run: impl Fn(Pair) -> Result<(), Difference>) {
-    let pair = Pair { first: PRODUCT, second: wrong };
+fn is_caught(fault: impl Debug, pair: Pair, run: impl Fn(Pair) -> Result<(), Difference>) {
     let Err(found) = run(pair) else {
         panic!("{fault:?} was not caught");
     };
@@ -78,16 +82,14 @@ fn ask_service(pair: Pair, service: &Service) -> Result<(), Difference> {
 }
 
 /// Each wrong version of a service is caught; and the one without a fault is not, so
-/// that what is caught is the fault.  `within` puts a version into a program.
+/// that what is caught is the fault.  `within` puts a version into a pair.
 fn all_are_caught<Fault: Copy + Debug, Wrong>(
     service: &Service,
     faults: &[Fault],
     wrong: fn(Option<Fault>) -> Wrong,
-    within: fn(&Wrong) -> Program,
+    within: impl Fn(&Wrong) -> Pair,
 ) {
-    let right = wrong(None);
-    let pair = Pair { first: PRODUCT, second: within(&right) };
-    assert_eq!(ask_service(pair, service), Ok(()));
+    assert_eq!(ask_service(within(&wrong(None)), service), Ok(()));
     for &fault in faults {
         is_caught(fault, within(&wrong(Some(fault))), |pair| ask_service(pair, service));
     }
@@ -116,8 +118,8 @@ fn questions_read_back() {
             coordinates: vec![i32::MIN, -1, i32::MAX],
             indices: vec![0, u32::MAX],
         },
-        Question::Element { depth: 2, bounds: 1, points: [-7; 24] },
-        Question::Element { depth: 8, bounds: 4, points: [-1_048_576; 24] },
+        Question::Element { depth: 2, bounds: 1, audit: 0, points: [-7; 24] },
+        Question::Element { depth: 8, bounds: 4, audit: 8, points: [-1_048_576; 24] },
         Question::Bounds { depth: 9, points: [1_048_577; 24] },
         Question::Bounds { depth: 4, points: [1_048_577; 24] },
         Question::Child { address: [1, 0, 1, 0], n: 8 },

@@ -1,17 +1,18 @@
-//! Inspectors, bounds, stamps and addresses that are wrong in one thing, among them the
-//! sham versions that 01 names.
+//! Inspectors, auditors, bounds, stamps and addresses that are wrong in one thing, among
+//! them the sham versions that 01 names.
 
-use crate::{alike, all_are_caught, is_caught, small_plan};
+use crate::{alike, all_are_caught, beside_the_library, finds_it_again, is_caught, small_plan};
+use compare::cases::cases;
 use compare::check::of_two_words;
 use compare::draw::OLD_RANGE;
 use compare::elements::{DEEP, DEEP_BOUNDS, ELEMENTS};
 use compare::program::{
-    pairs_of_places, Address, Answer, Bounds, Inspects, Move, Program, Record, Second, Stamp,
-    IN_ORDER, RECORD_WORDS, SECOND,
+    pairs_of_places, Address, Answer, Bounds, Inspects, Move, Moves, Product, Program, Record,
+    Second, Stamp, Stamps, IN_ORDER, PRODUCT, RECORD_WORDS, SECOND,
 };
 use compare::question::Question;
-use compare::run::{run, run_service, Plan};
-use compare::service::{made, Service};
+use compare::run::{run_meshes, run_service, Pair, Plan};
+use compare::service::{made, Corpora, Service};
 use second::{two_words, Limits};
 use std::cmp::Reverse;
 
@@ -20,6 +21,8 @@ faults! {
     RecordFromBefore,
     LastWordNotWritten,
     WritesWhenRefused,
+    WritesPastTheRecords,
+    UndecidedCountedTwice,
     CountsExchanged,
     CountsWhenRefused,
     SpaceBeforeIndices,
@@ -70,6 +73,7 @@ faults! {
     WritesNothing,
     // records
     OneMoreOpened,
+    HalvesOpened,
     ValueOffByOne,
     OtherCorner,
     OtherCoefficient,
@@ -152,17 +156,21 @@ fn wrapped(held: i128) -> i128 {
     i128::from(held as i64)
 }
 
-/// The second program with one fault, or without one.
-struct Wrong(Option<Fault>);
+/// An inspector with one fault, or without one.
+struct Wrong {
+    /// The right one, that is spoilt.
+    of: &'static dyn Inspects,
+    fault: Option<Fault>,
+}
 
 impl Wrong {
     fn is(&self, fault: Fault) -> bool {
-        self.0 == Some(fault)
+        self.fault == Some(fault)
     }
 
     fn limits(&self) -> Limits {
         let mut limits = Limits::base();
-        match self.0 {
+        match self.fault {
             Some(Fault::OneNodeMore) => limits.nodes += 1,
             Some(Fault::OneElementMore) => limits.elements += 1,
             Some(Fault::RangeOneMore) => limits.range += 1,
@@ -175,9 +183,34 @@ impl Wrong {
         limits
     }
 
+    /// Other limits than the right ones are the second program's alone to take.
+    fn right(
+        &self,
+        coordinates: &[i32],
+        indices: &[u32],
+        depth: u32,
+        report: &mut [i64],
+    ) -> Answer {
+        let limits = self.limits();
+        if limits == Limits::base() {
+            return self.of.inspect(coordinates, indices, depth, report);
+        }
+        let answer = second::inspect(&limits, coordinates, indices, depth, report);
+        [answer.number, answer.valid, answer.invalid, answer.undecided, answer.refused]
+    }
+
+    fn right_bounds(&self, points: &[i32; 24], depth: u32) -> Bounds {
+        let limits = self.limits();
+        if limits == Limits::base() {
+            return self.of.bounds(points, depth);
+        }
+        let answer = second::bounds(&limits, points, depth);
+        (answer.number, answer.low, answer.high)
+    }
+
     /// The depth that is inspected where this one is asked for.
     fn depth(&self, depth: u32) -> u32 {
-        match (self.0, depth) {
+        match (self.fault, depth) {
             (Some(Fault::DepthNineAccepted), 9) | (Some(Fault::DepthToSeven), 8) => depth - 1,
             _ => depth,
         }
@@ -211,13 +244,15 @@ impl Wrong {
     /// The record of an element with these points, spoilt.
     fn spoilt(&self, mut record: Record, points: &[i32; 24], depth: u32) -> Record {
         const VALID: Record = [0, 0, 0, 0, 0, 0, 0, 0, 1];
-        let Some(fault) = self.0 else { return record };
+        let Some(fault) = self.fault else { return record };
         let (held, level) = (of_two_words(&record[6..8]), record[1]);
         if self.wraps_value(points, depth) {
             return with_value(record, wrapped(held));
         }
         match (fault, record[0]) {
             (Fault::OneMoreOpened, _) => record[8] += i64::from(record[8] > 9),
+            // two halves and four quarters of each cube that is cut into eight
+            (Fault::HalvesOpened, _) => record[8] += (record[8] - 1) / 8 * 6,
             (Fault::ValueOffByOne, _) if held < -(1 << 70) => return with_value(record, held - 1),
             (Fault::OtherCorner, 1) if level == 2 => record[5] = 9 - record[5],
             (Fault::OtherCoefficient, 2) => record[5] = (record[5] + 1).min(27),
@@ -262,7 +297,7 @@ impl Wrong {
             Some(&(lower, higher)) => [7, lower as i64 + 1, higher as i64 + 1, 0, 0, 0, 0, 0, 0],
             None => record,
         };
-        let Some(fault) = self.0 else { return record };
+        let Some(fault) = self.fault else { return record };
         let pairs = pairs_of(|lower, higher| element[lower] == element[higher]);
         let points = second::points_of(coordinates, element);
         match (fault, record, points) {
@@ -300,7 +335,7 @@ impl Wrong {
     /// The record of an element with an index that names no node, spoilt.
     fn spoilt_missing(&self, record: Record, coordinates: &[i32], element: &[u32]) -> Record {
         let nodes = coordinates.len() as i64 / 3;
-        match (self.0, record) {
+        match (self.fault, record) {
             (Some(Fault::IndexAtTheCount), [5, _, index, ..]) if index == nodes => {
                 [1, 0, 0, 0, 0, 1, 0, 0, 1]
             }
@@ -339,7 +374,7 @@ impl Wrong {
     fn spoil_report(&self, before: &[i64], report: &mut [i64]) {
         const N: usize = RECORD_WORDS;
         let length = report.len();
-        match self.0 {
+        match self.fault {
             Some(Fault::RecordFromBefore) if length >= 2 * N && report[length - N] == 5 => {
                 // from word 3 on as the element before left them
                 report.copy_within(length - 2 * N + 3..length - N, length - N + 3);
@@ -356,6 +391,9 @@ impl Wrong {
         if self.is(Fault::CountsExchanged) && answer[1] != answer[3] {
             answer.swap(1, 3);
         }
+        if self.is(Fault::UndecidedCountedTwice) {
+            answer[3] *= 2;
+        }
         if self.is(Fault::CountsWhenRefused) && answer[0] == 4 {
             answer[4] = 1;
         }
@@ -370,13 +408,15 @@ impl Wrong {
         report: &mut [i64],
     ) -> Answer {
         let before = report.to_vec();
-        let asked = self.depth(depth);
-        let answer = second::inspect(&self.limits(), coordinates, indices, asked, report);
-        let mut answer =
-            [answer.number, answer.valid, answer.invalid, answer.undecided, answer.refused];
+        let mut answer = self.right(coordinates, indices, self.depth(depth), report);
         if answer[0] != 0 {
-            if self.is(Fault::WritesWhenRefused) {
-                report.fill(0);
+            match self.fault {
+                Some(Fault::WritesWhenRefused) => report.fill(0),
+                Some(Fault::WritesPastTheRecords) => {
+                    let past = report.get_mut(indices.len() / 8 * RECORD_WORDS);
+                    past.into_iter().for_each(|word| *word = 0);
+                }
+                _ => {}
             }
             return self.spoil_answer(answer);
         }
@@ -405,7 +445,7 @@ impl Inspects for Wrong {
         let elements = indices.len() / 8;
         let right_space = report.len() == RECORD_WORDS * elements;
         let space_of_eight = report.len() == 8 * elements && elements > 0;
-        match self.0 {
+        match self.fault {
             Some(Fault::RefusesAll) => [1, 0, 0, 0, 0],
             Some(Fault::SpaceBeforeIndices) if depth <= 8 && !right_space => [4, 0, 0, 0, 0],
             Some(Fault::SpaceOfEightWords) if right_space && elements > 0 => {
@@ -427,17 +467,16 @@ impl Inspects for Wrong {
     }
 
     fn bounds(&self, points: &[i32; 24], depth: u32) -> Bounds {
-        let limits = self.limits();
-        if self.is(Fault::RangeBeforeDepth) && points.iter().any(|x| is_past(x, limits.range)) {
+        let range = self.limits().range;
+        if self.is(Fault::RangeBeforeDepth) && points.iter().any(|x| is_past(x, range)) {
             return (6, 0, 0);
         }
-        let answer = second::bounds(&limits, points, self.depth(depth));
-        let (number, low, high) = (answer.number, answer.low, answer.high);
+        let (number, low, high) = self.right_bounds(points, self.depth(depth));
         let left_out = || {
-            let answer = second::bounds(&limits, points, depth - 1);
-            (answer.number, 64 * answer.low, 64 * answer.high)
+            let (number, low, high) = self.right_bounds(points, depth - 1);
+            (number, 64 * low, 64 * high)
         };
-        match self.0 {
+        match self.fault {
             _ if self.wraps_bounds(points, depth) => (number, wrapped(low), wrapped(high)),
             Some(Fault::LowOffByOne) if low > 1 << 64 => (number, low - 1, high),
             Some(Fault::HighOffByOne) if high < -(1 << 64) => (number, low, high - 1),
@@ -453,10 +492,12 @@ impl Inspects for Wrong {
             _ => (number, low, high),
         }
     }
+}
 
+impl Stamps for Wrong {
     fn stamp(&self, answer: Answer) -> Option<Stamp> {
         let [number, valid, invalid, undecided, refused] = answer;
-        match (self.0, (number, valid, invalid, undecided, refused)) {
+        match (self.fault, (number, valid, invalid, undecided, refused)) {
             (Some(Fault::UndecidedIsFaulty), (0, _, _, 1.., _)) => Some(Stamp::Faulty),
             (Some(Fault::UndecidedIsSound), (0, _, 0, 1.., 0)) => Some(Stamp::Sound),
             (Some(Fault::NoElementsAreSound), (0, 0, 0, 0, 0)) => Some(Stamp::Sound),
@@ -466,16 +507,18 @@ impl Inspects for Wrong {
             _ => Second.stamp(answer),
         }
     }
+}
 
+impl Moves for Wrong {
     fn child(&self, address: Address, n: u32) -> Move {
-        let n = match (self.0, n) {
+        let n = match (self.fault, n) {
             (Some(Fault::ChildrenExchanged), 3) => 4,
             (Some(Fault::ChildrenExchanged), 4) => 3,
             _ => n,
         };
         let [level, a, b, c] = address;
         let below = |most: u32| a < most && b < most && c < most;
-        match self.0 {
+        match self.fault {
             Some(Fault::ChildPastTheDepth) if level == 8 && below(256) && n == 1 => {
                 [1, 9, 2 * a, 2 * b, 2 * c]
             }
@@ -486,7 +529,7 @@ impl Inspects for Wrong {
 
     fn corner(&self, address: Address, n: u32) -> Move {
         let answer = Second.corner(address, n);
-        match self.0 {
+        match self.fault {
             Some(Fault::CornerPastTheCube) if answer[2] == 256 => [1, 8, 255, answer[3], answer[4]],
             Some(Fault::GridNumbersOfOneByte) => {
                 let [made, level, a, b, c] = answer;
@@ -498,7 +541,7 @@ impl Inspects for Wrong {
 
     fn parent(&self, address: Address) -> Move {
         let [level, a, b, c] = address;
-        match self.0 {
+        match self.fault {
             Some(Fault::ParentOfTheWhole) if address == [0; 4] => [1, 0, 0, 0, 0],
             Some(Fault::MovesNoCube) if level == 8 => [1, 7, a / 2, b / 2, c / 2],
             _ => Second.parent(address),
@@ -507,28 +550,67 @@ impl Inspects for Wrong {
 }
 
 fn within(inspector: &Wrong) -> Program<'_> {
-    Program { inspects: inspector, ..SECOND }
+    Program { inspects: inspector, stamps: inspector, moves: inspector, ..SECOND }
 }
 
-/// By the whole run, which begins with meshes, addresses and stamps.
+/// Where a wrong inspector stands, and whose answers it spoils.
+struct Place {
+    wrong: fn(Option<Fault>) -> Wrong,
+    within: fn(&Wrong) -> Pair,
+}
+
+/// In the second program: its own.
+const SECOND_PLACE: Place = Place {
+    wrong: |fault| Wrong { of: &Second, fault },
+    within: |inspector| beside_the_library(within(inspector)),
+};
+
+/// For the library's auditor: those of the library's inspector, which takes less time.
+const AUDITOR_PLACE: Place = Place {
+    wrong: |fault| Wrong { of: &Product, fault },
+    within: |auditor| Pair { first: Program { audits: auditor, ..PRODUCT }, second: SECOND },
+};
+
+const PLACES: [Place; 2] = [SECOND_PLACE, AUDITOR_PLACE];
+
+impl Place {
+    /// By the run of meshes, addresses and stamps.
+    fn run_catches(&self, faults: &[Fault]) {
+        let ask = |pair: Pair| run_meshes(pair, small_plan(), &drop);
+        assert_eq!(ask((self.within)(&(self.wrong)(None))), Ok(()));
+        for &fault in faults {
+            is_caught(fault, (self.within)(&(self.wrong)(Some(fault))), ask);
+        }
+    }
+
+    fn service_catches(&self, service: &Service, faults: &[Fault]) {
+        all_are_caught(service, faults, self.wrong, self.within);
+    }
+}
+
 #[test]
 fn every_faulty_inspector_is_caught() {
-    assert!(run(alike(within(&Wrong(None))), small_plan(), &drop).is_ok(), "without a fault");
-    for &fault in faults(Fault::RecordFromBefore, Fault::WritesNothing) {
-        is_caught(fault, within(&Wrong(Some(fault))), |pair| run(pair, small_plan(), &drop));
-    }
+    SECOND_PLACE.run_catches(faults(Fault::RecordFromBefore, Fault::WritesNothing));
+}
+
+/// The auditor has no addresses and no stamps of its own.
+#[test]
+fn every_faulty_auditor_is_caught() {
+    let of_meshes = faults(Fault::RecordFromBefore, Fault::RangeBeforeDepth);
+    let sham = faults(Fault::RefusesAll, Fault::WritesNothing);
+    AUDITOR_PLACE.run_catches(&[of_meshes, sham].concat());
 }
 
 #[test]
 fn every_faulty_record_or_bound_is_caught() {
     let faults = faults(Fault::OneMoreOpened, Fault::HighIsUnsigned);
-    all_are_caught(&ELEMENTS, faults, Wrong, within);
+    PLACES.iter().for_each(|place| place.service_catches(&ELEMENTS, faults));
 }
 
 #[test]
 fn every_fault_deep_down_is_caught() {
     let faults = faults(Fault::ValueWrappedInTheOldRange, Fault::ZeroIsPositiveDeepDown);
-    all_are_caught(&DEEP, faults, Wrong, within);
+    PLACES.iter().for_each(|place| place.service_catches(&DEEP, faults));
 }
 
 /// Each by the first question of the service that asks for bounds to its level.
@@ -538,7 +620,30 @@ fn every_fault_of_deep_bounds_is_caught() {
         let to_level = |question: &Question| matches!(question, Question::Element { bounds, .. } if *bounds == level);
         let mut questions = (DEEP_BOUNDS.listed)().flat_map(|(_, questions)| questions);
         let question = questions.find(to_level).expect("such a question");
-        is_caught(fault, within(&Wrong(Some(fault))), |pair| pair.ask_again(&question).map(drop));
+        for Place { wrong, within } in PLACES {
+            let ask = |pair: Pair| pair.ask_again(&question).map(drop);
+            is_caught(fault, within(&wrong(Some(fault))), ask);
+        }
+    }
+}
+
+/// The auditor is held to the first inspector at depths past those that are asked: here
+/// to its levels, of case D, which is valid at level 1.
+#[test]
+fn an_auditor_that_is_wrong_past_what_is_asked_is_caught() {
+    let cases = cases();
+    let d = cases.iter().find(|case| case.name == "D").expect("case D");
+    let points = d.points;
+    for question in [
+        Question::Element { depth: 1, bounds: 1, audit: 8, points },
+        Question::Bounds { depth: 1, points },
+        d.question(1),
+    ] {
+        let Place { wrong, within } = AUDITOR_PLACE;
+        let wrong = wrong(Some(Fault::LevelOfTheDepth));
+        let found = within(&wrong).ask_again(&question).expect_err("a wrong level");
+        assert!(found.what.ends_with(": 2 by the auditor, 1 by the first"), "{}", found.what);
+        finds_it_again(within(&wrong), &found);
     }
 }
 
@@ -548,4 +653,26 @@ fn every_fault_of_deep_bounds_is_caught() {
 fn every_verdict_has_to_be_met() {
     let nothing = Service { listed: || made([]), ..ELEMENTS };
     let _ = run_service(alike(SECOND), Plan { elements: 0, ..small_plan() }, &nothing, 0, &drop);
+}
+
+/// The questions of the greater depths, with the auditor to depth 3 alone.
+fn audited_to_depth_3() -> Corpora {
+    let less = |mut question: Question| {
+        if let Question::Element { audit, .. } = &mut question {
+            *audit = 3;
+        }
+        question
+    };
+    Box::new(
+        (DEEP.listed)()
+            .map(move |(name, questions)| (name, questions.into_iter().map(less).collect())),
+    )
+}
+
+/// By the auditor too.
+#[test]
+#[should_panic(expected = "no audited: valid at level 4 was met")]
+fn every_verdict_has_to_be_audited() {
+    let shallow = Service { listed: audited_to_depth_3, drawn: &[], ..DEEP };
+    let _ = run_service(alike(PRODUCT), small_plan(), &shallow, 0, &drop);
 }

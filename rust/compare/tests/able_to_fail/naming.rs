@@ -1,6 +1,6 @@
 //! Namers of elements that are wrong in one thing.
 
-use crate::{alike, all_are_caught, ask_service};
+use crate::{alike, all_are_caught, ask_service, beside_the_library};
 use compare::lots::NAMING;
 use compare::program::{Name, Names, Program, SECOND};
 use second::lot::Groups;
@@ -275,7 +275,7 @@ fn within(namer: &Wrong) -> Program<'_> {
 
 #[test]
 fn every_faulty_namer_is_caught() {
-    all_are_caught(&NAMING, FAULTS, Wrong, within);
+    all_are_caught(&NAMING, FAULTS, Wrong, |wrong| beside_the_library(within(wrong)));
 }
 
 /// Both bearers of names have to be met.

@@ -1,11 +1,12 @@
-//! Programs that are wrong in both places alike: nothing differs between the two, and
-//! the rules over depths, what 01 prints, or the rule of the stamp must catch them.
+//! Programs that are wrong in both places alike, and their auditors with them: nothing
+//! differs, and the rules over depths, what 01 prints, or the rule of the stamp must catch
+//! them.
 
 use crate::{alike, finds_it_again, small_plan};
 use compare::cases::cases;
 use compare::check::ask;
 use compare::program::{
-    Address, Answer, Bounds, Inspects, Move, Product, Program, Stamp, PRODUCT, RECORD_WORDS, SECOND,
+    Answer, Bounds, Inspects, Product, Program, Stamp, Stamps, PRODUCT, RECORD_WORDS, SECOND,
 };
 use compare::question::Question;
 use compare::run::{run, Pair};
@@ -79,30 +80,20 @@ impl Inspects for Unsteady {
             _ => (number, low, high),
         }
     }
+}
 
+impl Stamps for Unsteady {
     fn stamp(&self, answer: Answer) -> Option<Stamp> {
         match (self, answer) {
             (Unsteady::StampOf01, [0, _, 0, _, 0]) => Some(Stamp::Sound),
             _ => Product.stamp(answer),
         }
     }
-
-    fn child(&self, address: Address, n: u32) -> Move {
-        Product.child(address, n)
-    }
-
-    fn corner(&self, address: Address, n: u32) -> Move {
-        Product.corner(address, n)
-    }
-
-    fn parent(&self, address: Address) -> Move {
-        Product.parent(address)
-    }
 }
 
-/// The library with such a fault, in both places.
+/// The library with such a fault, in both places and in the auditor's.
 fn unsteady(fault: &Unsteady) -> Pair<'_> {
-    alike(Program { inspects: fault, ..PRODUCT })
+    alike(Program { inspects: fault, audits: fault, stamps: fault, ..PRODUCT })
 }
 
 /// The points of a worked case.
@@ -154,7 +145,7 @@ fn the_rules_over_depths_are_tested() {
     for (fault, case, rule) in faults {
         is_found(fault, rule, &worked_mesh(0));
         if let Some(points) = case.map(points_of) {
-            is_found(fault, rule, &Question::Element { depth: 0, bounds: 0, points });
+            is_found(fault, rule, &Question::Element { depth: 0, bounds: 0, audit: 8, points });
             is_found(fault, rule, &Question::Bounds { depth: 0, points });
         }
         assert!(run(unsteady(&fault), small_plan(), &drop).is_err());
@@ -166,7 +157,7 @@ fn the_rules_over_depths_are_tested() {
 #[test]
 fn the_rules_over_depths_are_tested_deep_down() {
     let a = points_of("A");
-    let element = Question::Element { depth: 0, bounds: 0, points: a };
+    let element = Question::Element { depth: 0, bounds: 0, audit: 8, points: a };
     let bounds = Question::Bounds { depth: 5, points: a };
     let mut coordinates = a.to_vec();
     coordinates.extend([1_048_577, 0, 0]);

@@ -1,6 +1,6 @@
 //! Printers of slips that are wrong in one thing.
 
-use crate::{alike, all_are_caught, ask_service};
+use crate::{alike, all_are_caught, ask_service, beside_the_library};
 use compare::check::of_two_words;
 use compare::lots::PRINTING;
 use compare::program::{lay, Prints, Program, SlipSpace, RECORD_WORDS, SECOND};
@@ -257,7 +257,7 @@ fn within(printer: &Wrong) -> Program<'_> {
 
 #[test]
 fn every_faulty_printer_is_caught() {
-    all_are_caught(&PRINTING, FAULTS, Wrong, within);
+    all_are_caught(&PRINTING, FAULTS, Wrong, |wrong| beside_the_library(within(wrong)));
 }
 
 /// Every number, kind of record and stamp has to be met.

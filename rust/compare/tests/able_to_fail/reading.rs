@@ -1,6 +1,6 @@
 //! Readers of lot files that are wrong in one thing.
 
-use crate::{alike, all_are_caught, ask_service, is_caught_alike};
+use crate::{alike, all_are_caught, ask_service, beside_the_library, is_caught_alike};
 use compare::lots::READING;
 use compare::program::{Lent, Program, ReadLot, Reads, SECOND};
 use second::lot::{Lot, Mark, Space};
@@ -502,7 +502,7 @@ fn within(reader: &Wrong) -> Program<'_> {
 
 #[test]
 fn every_faulty_reader_is_caught() {
-    all_are_caught(&READING, FAULTS, Wrong, within);
+    all_are_caught(&READING, FAULTS, Wrong, |wrong| beside_the_library(within(wrong)));
 }
 
 /// Readers that lose the same are caught where the lot is written back.

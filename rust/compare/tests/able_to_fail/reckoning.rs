@@ -1,7 +1,7 @@
 //! Programs for numbers of two words that are wrong in one thing.
 
-use crate::{is_caught, small_plan};
-use compare::program::{Program, Reckons, Second, PRODUCT, SECOND};
+use crate::{beside_the_library, is_caught, small_plan};
+use compare::program::{Program, Reckons, Second, SECOND};
 use compare::run::{numbers, Pair};
 use std::cmp::Ordering;
 
@@ -176,9 +176,8 @@ fn within(reckoner: &Wrong) -> Program<'_> {
 #[test]
 fn every_faulty_reckoner_is_caught() {
     let ask = |pair: Pair| numbers(pair, small_plan()).map(drop);
-    let right = Wrong(None);
-    assert_eq!(ask(Pair { first: PRODUCT, second: within(&right) }), Ok(()));
+    assert_eq!(ask(beside_the_library(within(&Wrong(None)))), Ok(()));
     for &fault in FAULTS {
-        is_caught(fault, within(&Wrong(Some(fault))), ask);
+        is_caught(fault, beside_the_library(within(&Wrong(Some(fault)))), ask);
     }
 }

@@ -1,6 +1,6 @@
 //! Writers of lot files that are wrong in one thing.
 
-use crate::{alike, all_are_caught, ask_service, is_caught_alike};
+use crate::{alike, all_are_caught, ask_service, beside_the_library, is_caught_alike};
 use compare::lots::WRITING;
 use compare::program::{lay, Program, Writes, Written, SECOND};
 use second::lot::{Lot, Mark};
@@ -301,7 +301,7 @@ fn within(writer: &Wrong) -> Program<'_> {
 
 #[test]
 fn every_faulty_writer_is_caught() {
-    all_are_caught(&WRITING, FAULTS, Wrong, within);
+    all_are_caught(&WRITING, FAULTS, Wrong, |wrong| beside_the_library(within(wrong)));
 }
 
 /// Writers that lose the same are caught where the file is read back.
