@@ -85,8 +85,12 @@ fn cut_row(
     let s = p.add(q);
     let t = q.add(r);
     let m = s.add(t);
-    wide_array::put_row(p.four_times(), s.twice(), m, x, y, z, lower);
-    wide_array::put_row(m, t.twice(), r.four_times(), x, y, z, upper);
+    wide_array::put(p.four_times(), x, lower);
+    wide_array::put(s.twice(), y, lower);
+    wide_array::put(m, z, lower);
+    wide_array::put(m, x, upper);
+    wide_array::put(t.twice(), y, upper);
+    wide_array::put(r.four_times(), z, upper);
 }
 
 // Both halves of c across direction d, four times larger.

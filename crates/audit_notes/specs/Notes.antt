@@ -1,43 +1,24 @@
 -- The notes case by case, as the code's branches reach them.
-use mathlib.Core.Path.{_≡_, refl, sym, _∙_, ap, subst}
-use mathlib.Core.Bool.{Bool, true, false, true≢false, not, _||_}
+use mathlib.Core.Path.{_≡_, refl, sym, _∙_, ap}
+use mathlib.Core.Bool.{Bool, true, false, not, _||_}
 use mathlib.Core.List.{List}
 use Prim.Native.Nat.{ℕ, zero, suc, _+_, _-_, _<_, _≤_}
 use native.Mathlib.Omega.{arith}
-use borrow.Author.Tests.{ne-eqb}
+use borrow.Author.Tests.{ne-eqb, lt-ltb, le-ltb}
 use lib.Dec.{eqb}
 use lib.ListN.{getD, length, take}
 use lib.IntN.{ℤ, pos}
 use lib.Signed.{leZ}
 use Rattle.foundation.specs.Least.{leastFrom}
 use Rattle.definitions.specs.Verdict.{Finding, blocked}
-use Rattle.verdict_theory.specs.Search.{Found, nothing, coefficient, point, Pass, ended, openCell, visit}
-use Rattle.verdict_theory.specs.Clear.{more}
-use Rattle.verdict_theory.specs.Extremes.{Extremes, with}
+use Rattle.verdict_theory.specs.Search.{Found, nothing, coefficient, point, ended, openCell, visit}
+use Rattle.verdict_theory.specs.Extremes.{with}
 use Rattle.search_theory.specs.Meaning.{cellOf, lowFrom, lowest}
 use Rattle.search_theory.specs.Lowest.{withCoefficient, atCorner, atCell, opened-corner, opened-coefficient, clear, low}
 use Rattle.search_theory.specs.Visit.{visit-none}
 use Rattle.search_theory.specs.Bounds.{coefficient-values, corner-values}
-use Rattle.audit_theory.specs.Walk.{Notes, sought, surveyed, stops, noted}
-use Rattle.audit_notes.specs.Meaning.{chosen, foundBy, notesBy}
-
--- ---- by the kind
-pub kind-ended : (k : ℕ) (f : Finding) → k ≡ 1 → ended (foundBy k f) ≡ true
-kind-ended k f e = ap (λ (n : ℕ). ended (foundBy n f)) e
-
-pub kind-going : (k : ℕ) (f : Finding) → (k ≡ 1 → ⊥) → ended (foundBy k f) ≡ false
-kind-going zero f h = refl
-kind-going (suc zero) f h = absurd (h refl)
-kind-going (suc (suc k)) f h = refl
-
--- a low coefficient takes the place of nothing, and of nothing else
-pub kind-none : (k : ℕ) (f g : Finding) → k ≡ 0 → coefficient g ≡ withCoefficient (foundBy k f) g
-kind-none k f g e = sym (ap (λ (n : ℕ). withCoefficient (foundBy n f) g) e)
-
-pub kind-stays : (k : ℕ) (f g : Finding) → (k ≡ 0 → ⊥) → foundBy k f ≡ withCoefficient (foundBy k f) g
-kind-stays zero f g h = absurd (h refl)
-kind-stays (suc zero) f g h = refl
-kind-stays (suc (suc k)) f g h = refl
+use Rattle.audit_theory.specs.Walk.{Notes, sought, surveyed, noted}
+use Rattle.audit_notes.specs.Meaning.{chosen, findingAt}
 
 -- ---- the lowest number, from the last to the first
 module _ (g : List ℤ) where
@@ -70,39 +51,43 @@ module _ (g : List ℤ) where
   looked-all l e = l .number ∙ ap (λ (i : ℕ). lowFrom g i (27 - i)) e
 
 -- ---- a cell opened by a search
-module _ (a b c : ℕ) (g : List ℤ) (sized : length g ≡ 27) (n : ℕ) (o : Found) where
-  pub open-ended : ended o ≡ true → record { count = n; found = o } ≡ openCell (cellOf a b c g) (record { count = n; found = o })
-  unfolding openCell
-  open-ended = go o
-    where
-      go : (o : Found) → ended o ≡ true → record { count = n; found = o } ≡ openCell (cellOf a b c g) (record { count = n; found = o })
-      go nothing e = absurd (true≢false (sym e))
-      go (coefficient f) e = absurd (true≢false (sym e))
-      go (point f) e = refl
+module _ (a b c : ℕ) (g : List ℤ) where
+  pub corner-found : (j : ℕ) → j < 8 → atCorner (cellOf a b c g) j ≡ findingAt (cellOf a b c g) j
+  corner-found j h = sym (ap (λ (t : Bool). elim t as (λ _. Finding) [ true ↦ atCorner (cellOf a b c g) j | false ↦ atCell (cellOf a b c g) j ]) (lt-ltb j 8 h))
 
-  module _ (going : ended o ≡ false) where
-    pub open-clear : lowest g ≡ 0 → record { count = n + 1; found = o } ≡ openCell (cellOf a b c g) (record { count = n; found = o })
+  pub cell-found : (j : ℕ) → 8 ≤ j → atCell (cellOf a b c g) j ≡ findingAt (cellOf a b c g) j
+  cell-found j h = sym (ap (λ (t : Bool). elim t as (λ _. Finding) [ true ↦ atCorner (cellOf a b c g) j | false ↦ atCell (cellOf a b c g) j ]) (le-ltb j 8 h))
+
+  -- after a low corner nothing changes
+  pub open-ended : (n : ℕ) (f : Finding) → sought (record { count = n; found = point f }) ≡ noted (cellOf a b c g) (sought (record { count = n; found = point f }))
+  unfolding openCell
+  open-ended n f = refl
+
+  module _ (n : ℕ) (o : Found) (going : ended o ≡ false) where
+    abbrev opens : Notes
+    opens = sought (openCell (cellOf a b c g) (record { count = n; found = o }))
+
+    pub open-clear : length g ≡ 27 → lowest g ≡ 0 → sought (record { count = n + 1; found = o }) ≡ opens
     unfolding visit
-    open-clear e = visit-none (cellOf a b c g) (record { count = n; found = o }) going 0 sized e
+    open-clear sized e = ap sought (visit-none (cellOf a b c g) (record { count = n; found = o }) going 0 sized e)
+
+    module _ (k : ℕ) (some : k ≡ 0 → ⊥) (e : k ≡ lowest g) where
+      number : lowest g ≡ suc (k - 1)
+      number = let p : k ≡ suc (k - 1) = omega (arith, some) in sym e ∙ p
+
+      pub open-corner : k ≤ 8 → {f : Finding} → f ≡ findingAt (cellOf a b c g) (k - 1) → sought (record { count = n + 1; found = point f }) ≡ opens
+      open-corner h w = let l : k - 1 < 8 = omega (arith, some, h) in
+          ap (λ (f : Finding). sought (record { count = n + 1; found = point f })) (w ∙ sym (corner-found (k - 1) l)) ∙ ap sought (opened-corner (cellOf a b c g) n o going (k - 1) number l)
+
+      pub open-other : 8 < k → {p : Found} → p ≡ withCoefficient o (findingAt (cellOf a b c g) (k - 1)) → sought (record { count = n + 1; found = p }) ≡ opens
+      open-other h w = let l : 8 ≤ k - 1 = omega (arith, h) in
+          ap (λ (p : Found). sought (record { count = n + 1; found = p })) (w ∙ ap (withCoefficient o) (sym (cell-found (k - 1) l))) ∙ ap sought (opened-coefficient (cellOf a b c g) n o going (k - 1) number l)
 
 -- ---- a cell seen by a survey
-pub seen : (a b c : ℕ) (g : List ℤ) → length g ≡ 27 → (l h : ℤ) {low high : ℤ} → low ≡ leastFrom l (take 27 g) → high ≡ leastFrom h (take 8 g) → record { low = low; high = high } ≡ with (cellOf a b c g) (record { low = l; high = h })
-seen a b c g sized l h p q = λ i. record { low = (p ∙ ap (leastFrom l) (sym (coefficient-values (cellOf a b c g) sized))) i; high = (q ∙ ap (leastFrom h) (sym (corner-values (cellOf a b c g) sized))) i }
+pub seen : (a b c : ℕ) (g : List ℤ) → length g ≡ 27 → (l h : ℤ) {low high : ℤ} → low ≡ leastFrom l (take 27 g) → high ≡ leastFrom h (take 8 g) → surveyed (record { low = low; high = high }) ≡ noted (cellOf a b c g) (surveyed (record { low = l; high = h }))
+seen a b c g sized l h p q = λ i. surveyed (record { low = (p ∙ ap (leastFrom l) (sym (coefficient-values (cellOf a b c g) sized))) i; high = (q ∙ ap (leastFrom h) (sym (corner-values (cellOf a b c g) sized))) i })
 
 -- ---- whether a cell is not cut
 pub stops-by : (a b c : ℕ) (g : List ℤ) (o : Found) → ended o ≡ false → (k : ℕ) → k ≡ lowest g → eqb k 0 ≡ (ended o || not (blocked (cellOf a b c g)))
 stops-by a b c g o going zero e = sym (λ i. going i || not (clear (cellOf a b c g) (sym e) i))
 stops-by a b c g o going (suc k) e = ne-eqb (suc k) 0 (λ z. absurd (omega (arith, z))) ∙ sym (λ i. going i || not (low (cellOf a b c g) (λ z. absurd (omega (arith, e, z))) i))
-
--- ---- what the notes of a search and of a survey are
-pub is-survey : {b : Bool} (p : Pass) (e : Extremes) → b ≡ true → notesBy b p e ≡ surveyed e
-is-survey p e t = ap (λ (b : Bool). notesBy b p e) t
-
-pub is-search : {b : Bool} (p : Pass) (e : Extremes) → b ≡ false → notesBy b p e ≡ sought p
-is-search p e t = ap (λ (b : Bool). notesBy b p e) t
-
--- a low coefficient by any other kind
-pub kind-other : (k : ℕ) (f : Finding) → (k ≡ 0 → ⊥) → (k ≡ 1 → ⊥) → coefficient f ≡ foundBy k f
-kind-other zero f h g = absurd (h refl)
-kind-other (suc zero) f h g = absurd (g refl)
-kind-other (suc (suc k)) f h g = refl

@@ -1,33 +1,40 @@
 // What the auditor's walk notes of an element's cells, with numbers of two words: a search what it found and how many cells it opened, a survey the
 // least coefficient and the least corner. An inner crate, for `audit_cycle` and `audit_points`, which meet what each `requires` asks.
 ghost use mathlib.Core.Path.{_≡_};
-ghost use mathlib.Core.Bool.{true, false};
-ghost use mathlib.Core.List.{List};
-ghost use Prim.Native.Nat.{ℕ, _+_, _^_, _<_, _≤_};
+ghost use Prim.Native.Nat.{ℕ, _+_, _-_, _^_, _<_, _≤_};
 ghost use lib.ListN.{take};
+ghost use lib.IntN.{pos};
 ghost use Rattle.foundation.specs.Least.{lesser as lesserOf, leastFrom};
-ghost use Rattle.definitions.specs.Record.{words as wordsOf, verdictWords};
-ghost use Rattle.verdict_theory.specs.Search.{nothing};
+ghost use Rattle.definitions.specs.Record.{words as wordsOf};
+ghost use Rattle.verdict_theory.specs.Search.{nothing, coefficient, openCell};
 ghost use Rattle.search_theory.specs.Meaning.{cellOf, lowest, Grid};
-ghost use Rattle.search_theory.specs.Levels.{outcome};
-ghost use Rattle.audit_theory.specs.Walk.{sought, surveyed, opened, stops as stopsAt, noted as notedAt};
+ghost use Rattle.audit_theory.specs.Walk.{sought, opened, stops as stopsAt, noted as notedAt};
 ghost use Rattle.wide_number.specs.Meaning.{valueOf};
 ghost use Rattle.wide_array.specs.Values.{values};
-ghost use Rattle.audit_notes.specs.Meaning.{chosen, foundBy, foundOf, passOf, extremesOf, notesOf};
+ghost use Rattle.audit_notes.specs.Meaning.{chosen, findingOf, notesOf, extremesOf, findingAt, blockedIn, recordIn, extremesIn};
 use limits::RECORD_WORDS;
 use wide_number::Wide;
 
-// Of a search: what was found (0 nothing, 1 a low corner, 2 a low coefficient), its grid numbers, its number and its value, and how many cells were
-// opened. Of a survey: the least coefficient and the least corner.
-pub struct Notes {
-    pub survey: bool,
-    pub kind: u32,
+// What a search found: the grid numbers, the number and the value of a low corner or a low coefficient.
+pub struct Finding {
     pub a: u32,
     pub b: u32,
     pub c: u32,
     pub number: u32,
     pub value: Wide,
-    pub opened: u32,
+}
+
+// Of a search how many cells were opened, and what was found: nothing, a low coefficient, or a low corner. Of a survey the least coefficient and the
+// least corner.
+pub enum Notes {
+    Nothing(u32),
+    Coefficient(u32, Finding),
+    Corner(u32, Finding),
+    Survey(Wide, Wide),
+}
+
+// The least coefficient and the least corner.
+pub struct Extremes {
     pub low: Wide,
     pub high: Wide,
 }
@@ -79,112 +86,60 @@ fn least_with(g: &[u64; 54], m: usize, v: Wide) -> Wide
     r
 }
 
-// A search that starts, with so many cells opened before it.
-pub fn search(opened: u32) -> Notes
-    ensures { λ r. ⌜ notesOf r ≡ sought (record { count = opened; found = nothing }) ⌝ }
+// The coefficient of number k of a cell: a corner at its point, any other at the cell.
+fn found_at(g: &[u64; 54], a: u32, b: u32, c: u32, k: usize) -> Finding
+    requires { ⌜ Grid a 0 × Grid b 0 × Grid c 0 × (0 < k) × (k ≤ 27) ⌝ }
+    ensures { λ r. ⌜ findingOf r ≡ findingAt (cellOf a b c (values (now (g .entry)))) (k - 1) ⌝ }
 {
-    let zero = Wide { low: 0, high: 0 };
-    Notes {
-        survey: false,
-        kind: 0,
-        a: 0,
-        b: 0,
-        c: 0,
-        number: 0,
-        value: zero,
-        opened: opened,
-        low: zero,
-        high: zero,
-    }
-}
-
-// A survey that starts, from a number that no value passes.
-pub fn survey(top: Wide) -> Notes
-    ensures { λ r. ⌜ notesOf r ≡ surveyed (record { low = valueOf top; high = valueOf top }) ⌝ }
-{
-    Notes {
-        survey: true,
-        kind: 0,
-        a: 0,
-        b: 0,
-        c: 0,
-        number: 0,
-        value: top,
-        opened: 0,
-        low: top,
-        high: top,
-    }
-}
-
-// One cell more of a search, with what is found.
-fn found(kind: u32, a: u32, b: u32, c: u32, number: u32, value: Wide, opened: u32) -> Notes
-    requires { ⌜ opened + 1 < 2 ^ 32 ⌝ }
-    ensures { λ r. ⌜ notesOf r ≡ sought (record { count = opened + 1; found = foundBy kind (record { number = number; a = a; b = b; c = c; value = valueOf value }) }) ⌝ }
-{
-    Notes {
-        survey: false,
-        kind: kind,
-        a: a,
-        b: b,
-        c: c,
-        number: number,
-        value: value,
-        opened: opened + 1,
-        low: value,
-        high: value,
-    }
-}
-
-// A cell of the last level, opened by a search.
-fn open_cell(g: &[u64; 54], a: u32, b: u32, c: u32, n: Notes) -> Notes
-    requires { ⌜ Grid a 0 × Grid b 0 × Grid c 0 × (n .opened + 1 < 2 ^ 32) × (n .survey ≡ false) ⌝ }
-    ensures { λ r. ⌜ notesOf r ≡ notedAt (cellOf a b c (values (now (g .entry)))) (sought (passOf n)) ⌝ }
-{
-    if n.kind == 1 {
-        return n;
-    }
-    let k = lowest_number(g);
-    let before = n.value;
-    if k == 0 {
-        return found(n.kind, n.a, n.b, n.c, n.number, before, n.opened);
-    }
     let j = k as u32 - 1;
     let value = wide_array::at(g, k - 1);
     if k <= 8 {
-        return found(
-            1,
-            a + cell_corners::side(0, j),
-            b + cell_corners::side(1, j),
-            c + cell_corners::side(2, j),
-            j + 1,
-            value,
-            n.opened,
-        );
+        return Finding {
+            a: a + cell_corners::side(0, j),
+            b: b + cell_corners::side(1, j),
+            c: c + cell_corners::side(2, j),
+            number: j + 1,
+            value: value,
+        };
     }
-    if n.kind == 0 {
-        return found(2, a, b, c, j + 1, value, n.opened);
+    Finding {
+        a: a,
+        b: b,
+        c: c,
+        number: j + 1,
+        value: value,
     }
-    found(n.kind, n.a, n.b, n.c, n.number, before, n.opened)
 }
 
-// A cell of the last level, seen by a survey.
-fn survey_cell(g: &[u64; 54], n: Notes) -> Notes
-    ensures { λ r. ⌜ ((a b c : ℕ) → notesOf r ≡ notedAt (cellOf a b c (values (now (g .entry)))) (surveyed (extremesOf n))) ⌝ }
+// A cell of the last level, opened where nothing low was found before.
+fn first_look(g: &[u64; 54], a: u32, b: u32, c: u32, opened: u32) -> Notes
+    requires { ⌜ Grid a 0 × Grid b 0 × Grid c 0 × (opened + 1 < 2 ^ 32) ⌝ }
+    ensures { λ r. ⌜ notesOf r ≡ sought (openCell (cellOf a b c (values (now (g .entry)))) (record { count = opened; found = nothing })) ⌝ }
 {
-    let low = n.low;
-    let high = n.high;
-    Notes {
-        survey: true,
-        kind: 0,
-        a: 0,
-        b: 0,
-        c: 0,
-        number: 0,
-        value: low,
-        opened: 0,
-        low: least_with(g, 27, low),
-        high: least_with(g, 8, high),
+    let k = lowest_number(g);
+    if k == 0 {
+        return Notes::Nothing(opened + 1);
     }
+    let f = found_at(g, a, b, c, k);
+    if k <= 8 {
+        return Notes::Corner(opened + 1, f);
+    }
+    Notes::Coefficient(opened + 1, f)
+}
+
+// A cell of the last level, opened after a low coefficient, which stays unless a corner is low.
+fn later_look(g: &[u64; 54], a: u32, b: u32, c: u32, opened: u32, before: Finding) -> Notes
+    requires { ⌜ Grid a 0 × Grid b 0 × Grid c 0 × (opened + 1 < 2 ^ 32) ⌝ }
+    ensures { λ r. ⌜ notesOf r ≡ sought (openCell (cellOf a b c (values (now (g .entry)))) (record { count = opened; found = coefficient (findingOf before) })) ⌝ }
+{
+    let k = lowest_number(g);
+    if k == 0 {
+        return Notes::Coefficient(opened + 1, before);
+    }
+    if k <= 8 {
+        return Notes::Corner(opened + 1, found_at(g, a, b, c, k));
+    }
+    Notes::Coefficient(opened + 1, before)
 }
 
 // A cell of the last level.
@@ -192,63 +147,105 @@ pub fn noted(g: &[u64; 54], a: u32, b: u32, c: u32, n: Notes) -> Notes
     requires { ⌜ Grid a 0 × Grid b 0 × Grid c 0 × (opened (notesOf n) + 1 < 2 ^ 32) ⌝ }
     ensures { λ r. ⌜ notesOf r ≡ notedAt (cellOf a b c (values (now (g .entry)))) (notesOf n) ⌝ }
 {
-    if n.survey {
-        return survey_cell(g, n);
+    match n {
+        Notes::Nothing(opened) => first_look(g, a, b, c, opened),
+        Notes::Coefficient(opened, f) => later_look(g, a, b, c, opened, f),
+        Notes::Corner(opened, f) => Notes::Corner(opened, f),
+        Notes::Survey(low, high) => {
+            Notes::Survey(least_with(g, 27, low), least_with(g, 8, high))
+        }
     }
-    open_cell(g, a, b, c, n)
 }
 
 // Whether a cell is not cut: a search has found a low corner, or the cell has no low coefficient. A survey cuts every cell.
 pub fn stops(g: &[u64; 54], n: Notes) -> bool
     ensures { λ r. ⌜ ((a b c : ℕ) → r ≡ stopsAt (cellOf a b c (values (now (g .entry)))) (notesOf n)) ⌝ }
 {
-    if n.survey {
-        return false;
+    match n {
+        Notes::Nothing(opened) => lowest_number(g) == 0,
+        Notes::Coefficient(opened, f) => lowest_number(g) == 0,
+        Notes::Corner(opened, f) => true,
+        Notes::Survey(low, high) => false,
     }
-    if n.kind == 1 {
-        return true;
+}
+
+// Whether a search found a low coefficient and no low corner.
+pub fn blocked(n: Notes) -> bool
+    ensures { λ r. ⌜ r ≡ blockedIn (notesOf n) ⌝ }
+{
+    match n {
+        Notes::Nothing(opened) => false,
+        Notes::Coefficient(opened, f) => true,
+        Notes::Corner(opened, f) => false,
+        Notes::Survey(low, high) => false,
     }
-    lowest_number(g) == 0
+}
+
+// How many cells a search opened; of a survey 0.
+pub fn count(n: Notes) -> u32
+    ensures { λ r. ⌜ r ≡ opened (notesOf n) ⌝ }
+{
+    match n {
+        Notes::Nothing(opened) => opened,
+        Notes::Coefficient(opened, f) => opened,
+        Notes::Corner(opened, f) => opened,
+        Notes::Survey(low, high) => 0,
+    }
 }
 
 // The words of a record.
-fn words(
-    kind: u32,
-    level: u32,
-    a: u32,
-    b: u32,
-    c: u32,
-    number: u32,
-    value: Wide,
-    opened: u32,
-) -> [i64; RECORD_WORDS]
-    ensures { λ w. ⌜ w ≡ wordsOf kind level a b c number (valueOf value) opened ⌝ }
+fn words(kind: u32, level: u32, f: Finding, opened: u32) -> [i64; RECORD_WORDS]
+    ensures { λ w. ⌜ w ≡ wordsOf kind level (f .a) (f .b) (f .c) (f .number) (valueOf (f .value)) opened ⌝ }
 {
+    let value = f.value;
     let low = wide_number::signed(value.low);
     let high = wide_number::signed(value.high);
     [
         kind as i64,
         level as i64,
-        a as i64,
-        b as i64,
-        c as i64,
-        number as i64,
+        f.a as i64,
+        f.b as i64,
+        f.c as i64,
+        f.number as i64,
         low,
         high,
         opened as i64,
     ]
 }
 
-// The record that a search of a level comes to, where it is the last.
+// The record of a search of a level, where it is the last; of a survey nine zeros.
 pub fn record(level: u32, n: Notes) -> [i64; RECORD_WORDS]
-    ensures { λ w. ⌜ w ≡ verdictWords (outcome level (foundOf n)) (n .opened) ⌝ }
+    ensures { λ w. ⌜ w ≡ recordIn level (notesOf n) ⌝ }
 {
-    let value = n.value;
-    if n.kind == 0 {
-        return words(0, level, 0, 0, 0, 0, Wide { low: 0, high: 0 }, n.opened);
+    match n {
+        Notes::Nothing(opened) => [0, level as i64, 0, 0, 0, 0, 0, 0, opened as i64],
+        Notes::Coefficient(opened, f) => words(2, level, f, opened),
+        Notes::Corner(opened, f) => words(1, level, f, opened),
+        Notes::Survey(low, high) => [0, 0, 0, 0, 0, 0, 0, 0, 0],
     }
-    if n.kind == 1 {
-        return words(1, level, n.a, n.b, n.c, n.number, value, n.opened);
+}
+
+// Zeros, where there is no survey.
+fn no_extremes() -> Extremes
+    ensures { λ r. ⌜ extremesOf r ≡ record { low = pos 0; high = pos 0 } ⌝ }
+{
+    Extremes {
+        low: Wide::from_i64(0),
+        high: Wide::from_i64(0),
     }
-    words(2, level, n.a, n.b, n.c, n.number, value, n.opened)
+}
+
+// What a survey comes to; of a search zeros.
+pub fn surveyed(n: Notes) -> Extremes
+    ensures { λ r. ⌜ extremesOf r ≡ extremesIn (notesOf n) ⌝ }
+{
+    match n {
+        Notes::Nothing(opened) => no_extremes(),
+        Notes::Coefficient(opened, f) => no_extremes(),
+        Notes::Corner(opened, f) => no_extremes(),
+        Notes::Survey(low, high) => Extremes {
+            low: low,
+            high: high,
+        },
+    }
 }

@@ -1,28 +1,22 @@
 -- Eight points within the limits: there is room for every walk, and what the walks come to.
-use mathlib.Core.Path.{_≡_, refl, sym, _∙_, ap, subst}
-use mathlib.Core.Bool.{Bool, true, false, true≢false}
+use mathlib.Core.Path.{_≡_, sym, _∙_, ap, subst}
 use mathlib.Core.List.{List}
-use Prim.Native.Nat.{ℕ, zero, suc, _+_, _*_, _/_, _%_, _^_, _<_, _≤_}
+use Prim.Native.Nat.{ℕ, suc, _+_, _*_, _/_, _%_, _^_, _<_, _≤_}
 use native.Mathlib.Nat.{pow-le-pow-right, zero-lt-suc}
 use native.Mathlib.Omega.{arith}
-use borrow.Author.Tests.{lt-ltb}
-use lib.Dec.{ltb, lit≤}
+use lib.Dec.{lit≤}
 use lib.IntN.{ℤ, pos}
 use Rattle.definitions.specs.Limits.{base}
-use Rattle.definitions.specs.Verdict.{Finding}
 use Rattle.definitions.specs.Coefficients.{coefficients}
 use Rattle.verdict_theory.specs.Opened.{most}
-use Rattle.verdict_theory.specs.Search.{Pass, visit}
-use Rattle.verdict_theory.specs.Extremes.{Extremes}
-use Rattle.search_theory.specs.Meaning.{cellOf, Small, Room}
+use Rattle.verdict_theory.specs.Search.{visit}
+use Rattle.search_theory.specs.Meaning.{Small, Room}
 use Rattle.search_theory.specs.Points.{points-small as small-within}
-use Rattle.search_theory.specs.Visit.{isBlocked}
 use Rattle.search_theory.specs.Levels.{wholeOf, fresh, whole-room, most-less}
 use Rattle.search_theory.specs.Bounds.{boundsAt, bounds-are}
 use Rattle.audit_theory.specs.Walk.{Notes, sought, surveyed, opened, walk, walk-sought, walk-surveyed}
 use Rattle.element_vectors.specs.Range.{InRange}
 use Rattle.wide_array.specs.Word.{largest}
-use Rattle.audit_notes.specs.Meaning.{foundBy, notesBy}
 
 pub points-small : (xs g : List ℤ) (depth : ℕ) → InRange (base .range) xs → depth ≤ base .depth → g ≡ coefficients xs → Small largest g depth
 points-small xs g depth h = small-within largest (base .range) (base .depth) (lit≤ tt) xs g depth (h .small)
@@ -39,38 +33,12 @@ pub opened-few : (m c : ℕ) → m < base .depth → c ≤ most m → c + 8 ^ (m
 opened-few m c l h = let p : m + 1 ≡ suc m = omega arith in let q : most (suc m) ≤ most (base .depth) = most-less (suc m) (omega (arith, l)) in omega (arith, h, q, ap (λ (k : ℕ). 8 ^ k) p)
 
 pub survey-few : (m : ℕ) → m ≤ base .depth → 0 + 8 ^ m < 2 ^ 32
-survey-few m l = let p : 8 ^ m ≤ 8 ^ 8 = pow-le-pow-right (zero-lt-suc 7) l in omega (arith, p)
+survey-few m l = let p : 8 ^ m ≤ 8 ^ base .depth = pow-le-pow-right (zero-lt-suc 7) l in omega (arith, p)
 
 -- ---- a search
-pub search-walk : (g : List ℤ) (m c : ℕ) {start n : Notes} → start ≡ sought (fresh c) → n ≡ walk (3 * m / 3) (wholeOf g) start → n ≡ sought (visit m (wholeOf g) (fresh c))
-search-walk g m c s e = e ∙ (λ i. walk (thirds m i) (wholeOf g) (s i)) ∙ walk-sought m (wholeOf g) (fresh c)
+pub search-walk : (g : List ℤ) (m c : ℕ) {n : Notes} → n ≡ walk (3 * m / 3) (wholeOf g) (sought (fresh c)) → n ≡ sought (visit m (wholeOf g) (fresh c))
+search-walk g m c e = e ∙ ap (λ (k : ℕ). walk k (wholeOf g) (sought (fresh c))) (thirds m) ∙ walk-sought m (wholeOf g) (fresh c)
 
-pub kind-blocked : (k : ℕ) (f : Finding) → isBlocked (foundBy k f) ≡ ltb 1 k
-kind-blocked zero f = refl
-kind-blocked (suc zero) f = refl
-kind-blocked (suc (suc k)) f = sym (lt-ltb 1 (suc (suc k)) (omega arith))
-
--- the notes of a search hold its pass
-abbrev isSurvey : Notes → Bool
-isSurvey (sought p) = false
-isSurvey (surveyed e) = true
-
-abbrev passIn : Pass → Notes → Pass
-passIn q (sought p) = p
-passIn q (surveyed e) = q
-
-pub search-held : (b : Bool) (p : Pass) (e : Extremes) {q : Pass} → notesBy b p e ≡ sought q → p ≡ q
-search-held true p e h = absurd (true≢false (ap isSurvey h))
-search-held false p e {q} h = ap (passIn q) h
-
--- ---- a survey
-abbrev extremesIn : Extremes → Notes → Extremes
-extremesIn r (sought p) = r
-extremesIn r (surveyed e) = e
-
-pub survey-held : (b : Bool) (p : Pass) (e : Extremes) {r : Extremes} → notesBy b p e ≡ surveyed r → e ≡ r
-survey-held true p e {r} h = ap (extremesIn r) h
-survey-held false p e h = absurd (true≢false (sym (ap isSurvey h)))
-
-pub survey-walk : (xs g : List ℤ) (D : ℕ) → g ≡ coefficients xs → Small largest g D → {start n : Notes} → start ≡ surveyed (record { low = pos largest; high = pos largest }) → n ≡ walk (3 * D / 3) (wholeOf g) start → n ≡ surveyed (boundsAt xs D)
-survey-walk xs g D e small s h = h ∙ (λ i. walk (thirds D i) (wholeOf g) (s i)) ∙ walk-surveyed D (wholeOf g) (record { low = pos largest; high = pos largest }) ∙ ap surveyed (bounds-are largest xs g D e small)
+-- ---- a survey, from the greatest number
+pub survey-walk : (xs g : List ℤ) (D : ℕ) → g ≡ coefficients xs → Small largest g D → (top : ℤ) → top ≡ pos largest → {n : Notes} → n ≡ walk (3 * D / 3) (wholeOf g) (surveyed (record { low = top; high = top })) → n ≡ surveyed (boundsAt xs D)
+survey-walk xs g D e small top t h = h ∙ (λ i. walk (thirds D i) (wholeOf g) (surveyed (record { low = t i; high = t i }))) ∙ walk-surveyed D (wholeOf g) (record { low = pos largest; high = pos largest }) ∙ ap surveyed (bounds-are largest xs g D e small)

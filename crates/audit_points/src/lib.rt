@@ -13,6 +13,7 @@ ghost use Rattle.element_vectors.specs.Range.{InRange};
 ghost use Rattle.wide_array.specs.Values.{values};
 ghost use Rattle.wide_array.specs.Word.{largest};
 ghost use Rattle.audit_notes.specs.Meaning.{extremesOf};
+use audit_notes::Extremes;
 use audit_notes::Notes;
 use limits::RECORD_WORDS;
 use wide_number::Wide;
@@ -28,10 +29,10 @@ fn search(g: &[u64; 54], depth: u32) -> [i64; RECORD_WORDS]
     ensures { λ w. ⌜ ((xs : List ℤ) → values (now (g .entry)) ≡ coefficients xs → w ≡ recordOf xs depth) ⌝ }
 {
     let mut m: u32 = 0;
-    let mut n = audit_cycle::xi(g, 0, 0, 0, 0, audit_notes::search(0));
-    while (m < depth) & (1 < n.kind) {
+    let mut n = audit_cycle::xi(g, 0, 0, 0, 0, Notes::Nothing(0));
+    while (m < depth) & audit_notes::blocked(n) {
         m += 1;
-        n = audit_cycle::xi(g, 0, 0, 0, 3 * m, audit_notes::search(n.opened));
+        n = audit_cycle::xi(g, 0, 0, 0, 3 * m, Notes::Nothing(audit_notes::count(n)));
     }
     audit_notes::record(m, n)
 }
@@ -46,8 +47,8 @@ pub fn record(p: &[i32; 24], depth: u32) -> [i64; RECORD_WORDS]
     search(&g, depth)
 }
 
-// The notes of a survey of eight points that are all in range: both bounds.
-pub fn bounds(p: &[i32; 24], depth: u32) -> Notes
+// Both bounds of eight points that are all in range, by a survey from the greatest number, which no coefficient passes.
+pub fn bounds(p: &[i32; 24], depth: u32) -> Extremes
     requires { ⌜ InRange (base .range) (now p) × (depth ≤ base .depth) ⌝ }
     ensures { λ r. ⌜ extremesOf r ≡ boundsAt (now (p .entry)) depth ⌝ }
 {
@@ -57,5 +58,6 @@ pub fn bounds(p: &[i32; 24], depth: u32) -> Notes
         low: GREATEST_LOW,
         high: GREATEST_HIGH,
     };
-    audit_cycle::xi(&g, 0, 0, 0, 3 * depth, audit_notes::survey(top))
+    let survey = audit_cycle::xi(&g, 0, 0, 0, 3 * depth, Notes::Survey(top, top));
+    audit_notes::surveyed(survey)
 }

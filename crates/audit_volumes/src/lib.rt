@@ -5,12 +5,13 @@ ghost use mathlib.Core.Path.{_≡_};
 ghost use mathlib.Core.List.{[], _∷_};
 ghost use Prim.Native.Nat.{_+_, _-_, _<_, _≤_};
 ghost use lib.ListN.{getD, length, take};
+ghost use lib.IntN.{_-ℤ_, _*ℤ_};
 ghost use Rattle.foundation.specs.Polynomial.{integers};
 ghost use Rattle.foundation.specs.Words.{Within};
 ghost use Rattle.definitions.specs.Limits.{base};
 ghost use Rattle.definitions.specs.Jacobian.{nodesOf, det};
 ghost use Rattle.definitions.specs.Coefficients.{cornerTetrahedra, edgeTetrahedra, volumes};
-ghost use Rattle.wide_number.specs.Meaning.{valueOf};
+ghost use Rattle.wide_number.specs.Meaning.{valueOf, modulo};
 ghost use Rattle.wide_array.specs.Values.{values};
 ghost use Rattle.element_vectors.specs.Range.{InRange, Node};
 ghost use Rattle.element_vectors.specs.Vectors.{vector};
@@ -20,7 +21,16 @@ use element_vectors::edge;
 use element_vectors::middle;
 use wide_number::Wide;
 
-// The determinant of the vectors u, v, w: the minors of v and w in one word, their products with u in two.
+// a d − b c, modulo 2^128.
+fn minor(a: Wide, b: Wide, c: Wide, d: Wide) -> Wide
+    ensures { λ r. ⌜ valueOf r ≡ modulo (modulo (valueOf a *ℤ valueOf d) -ℤ modulo (valueOf b *ℤ valueOf c)) ⌝ }
+{
+    let s = a.mul(d);
+    let t = b.mul(c);
+    s.sub(t)
+}
+
+// The determinant of the vectors u, v, w: the coordinates of u with the minors of v and w. It fits two words, so nothing is lost on the way.
 fn determinant(
     ux: i64,
     uy: i64,
@@ -35,11 +45,20 @@ fn determinant(
     requires { ⌜ Within edgeLimit (ux ∷ uy ∷ uz ∷ []) ⌝ ∗ ⌜ Within middleLimit (vx ∷ vy ∷ vz ∷ []) ⌝ ∗ ⌜ Within middleLimit (wx ∷ wy ∷ wz ∷ []) ⌝ }
     ensures { λ r. ⌜ valueOf r ≡ det integers (vector ux uy uz) (vector vx vy vz) (vector wx wy wz) ⌝ }
 {
-    let x = Wide::product(ux, vy * wz - vz * wy);
-    let y = Wide::product(uy, vx * wz - vz * wx);
-    let z = Wide::product(uz, vx * wy - vy * wx);
-    let d = x.sub(y);
-    d.add(z)
+    let a = Wide::from_i64(vx);
+    let b = Wide::from_i64(vy);
+    let c = Wide::from_i64(vz);
+    let d = Wide::from_i64(wx);
+    let e = Wide::from_i64(wy);
+    let f = Wide::from_i64(wz);
+    let p = Wide::from_i64(ux);
+    let q = Wide::from_i64(uy);
+    let r = Wide::from_i64(uz);
+    let x = p.mul(minor(b, c, e, f));
+    let y = q.mul(minor(a, c, d, f));
+    let z = r.mul(minor(a, b, d, e));
+    let s = x.sub(y);
+    s.add(z)
 }
 
 // Volume k of the points, counted from 0, into out: J at corner a, whose neighbours are b, c, d. The volumes before it stand in their places.

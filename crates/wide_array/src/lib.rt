@@ -1,4 +1,4 @@
-// 27 numbers of two words each, lent as 54 words: one read, and one or three put. An inner crate, for the crates `wide_*`.
+// 27 numbers of two words each, lent as 54 words: one read, and one put. An inner crate, for the crates `wide_*` and `audit_*`.
 ghost use mathlib.Core.Path.{_≡_};
 ghost use Prim.Native.Nat.{_<_};
 ghost use lib.ListN.{length};
@@ -23,14 +23,4 @@ pub fn put(x: Wide, k: usize, out: &mut [u64; 54])
 {
     out[2 * k] = x.low;
     out[2 * k + 1] = x.high;
-}
-
-// Numbers x, y, z of out become u, v, w, one after the other.
-pub fn put_row(u: Wide, v: Wide, w: Wide, x: usize, y: usize, z: usize, out: &mut [u64; 54])
-    requires { ⌜ (x < 27) × (y < 27) × (z < 27) × (length (now out) ≡ 54) ⌝ }
-    ensures { λ _. ⌜ now (out .exit) ≡ putNumber (w .low) (w .high) z (putNumber (v .low) (v .high) y (putNumber (u .low) (u .high) x (now (out .entry)))) ⌝ }
-{
-    put(u, x, out);
-    put(v, y, out);
-    put(w, z, out);
 }

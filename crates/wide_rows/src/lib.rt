@@ -1,12 +1,14 @@
 // A row of three numbers of two words, cut by de Casteljau's rule and kept four times larger. An inner crate, for `wide_halves` and, its middle, for `wide_grid`.
 ghost use mathlib.Core.Path.{_≡_};
 ghost use mathlib.Core.List.{[], _∷_};
-ghost use Prim.Native.Nat.{_+_};
+ghost use Prim.Native.Nat.{_+_, _<_};
+ghost use lib.ListN.{length};
 ghost use Rattle.foundation.specs.Polynomial.{integers};
 ghost use Rattle.foundation.specs.Words.{args, Within};
 ghost use Rattle.definitions.specs.Subdivision.{cutRow};
 ghost use Rattle.expansion_theory.specs.Rows.{Row};
 ghost use Rattle.wide_number.specs.Meaning.{valueOf};
+ghost use Rattle.wide_array.specs.Values.{putNumber};
 ghost use Rattle.wide_array.specs.Word.{cutLargest};
 ghost use Rattle.wide_array.specs.Rows.{RowsHeld};
 use wide_number::Wide;
@@ -36,6 +38,16 @@ pub fn end(p: Wide, q: Wide, r: Wide) -> Wide
     s.add(r)
 }
 
+// u, v, w into out at x, y, z.
+fn put_row(u: Wide, v: Wide, w: Wide, x: usize, y: usize, z: usize, out: &mut [u64; 54])
+    requires { ⌜ (x < 27) × (y < 27) × (z < 27) × (length (now out) ≡ 54) ⌝ }
+    ensures { λ _. ⌜ now (out .exit) ≡ putNumber (w .low) (w .high) z (putNumber (v .low) (v .high) y (putNumber (u .low) (u .high) x (now (out .entry)))) ⌝ }
+{
+    wide_array::put(u, x, out);
+    wide_array::put(v, y, out);
+    wide_array::put(w, z, out);
+}
+
 // Row j of direction d, the coefficients x, y, z of c: its lower half, into out. Only the contract reads d and j.
 pub fn lower_row(
     c: &[u64; 54],
@@ -53,7 +65,7 @@ pub fn lower_row(
     let p = wide_array::at(c, x);
     let q = wide_array::at(c, y);
     let r = wide_array::at(c, z);
-    wide_array::put_row(start(p, q, r), middle(p, q, r), end(p, q, r), x, y, z, out);
+    put_row(start(p, q, r), middle(p, q, r), end(p, q, r), x, y, z, out);
 }
 
 // Its upper half.
@@ -73,5 +85,5 @@ pub fn upper_row(
     let p = wide_array::at(c, x);
     let q = wide_array::at(c, y);
     let r = wide_array::at(c, z);
-    wide_array::put_row(end(r, q, p), middle(r, q, p), start(r, q, p), x, y, z, out);
+    put_row(end(r, q, p), middle(r, q, p), start(r, q, p), x, y, z, out);
 }

@@ -3,6 +3,7 @@ use mathlib.Core.Path.{_≡_, sym, ap, subst, _∙_}
 use mathlib.Core.List.{List, [], _∷_}
 use Prim.Native.Nat.{ℕ, _<_}
 use native.Mathlib.Omega.{arith}
+use lib.ListN.{length}
 use lib.IntN.{ℤ}
 use mir.Syntax.{w128}
 use mir.Val.{SFits}
@@ -14,7 +15,7 @@ use Rattle.expansion_theory.specs.RowLaws.{row-small}
 use Rattle.wrapping_theory.specs.Words.{value-fits}
 use Rattle.wide_number.specs.Meaning.{valueOf}
 use Rattle.wide_array.specs.Word.{cutLargest}
-use Rattle.wide_array.specs.Values.{values}
+use Rattle.wide_array.specs.Values.{values, putNumber, put-length}
 use Rattle.wide_array.specs.Rows.{read-row, row-within, row-put}
 use Rattle.audit_cut.specs.Rows.{first-is, second-is, middle-is, fourth-is, last-is}
 use borrow.Author.Needs.{needs}
@@ -88,38 +89,50 @@ add-requires-3 c κs = search needs
 four-times-requires : tie.Need-four-times-requires
 four-times-requires c κs = search needs
 
+put-requires : tie.Need-put-requires
+put-requires c κs = let s = c .before .before .before .before .before .before .before .before in (small s .0, s .pre .1 .below .sized)
+
 twice-requires : tie.Need-twice-requires
 twice-requires c κs = search needs
 
-put-row-requires : tie.Need-put-row-requires
-put-row-requires c κs = let s = entry (c .before .before .before .before .before .before) in let k = small s in (k .0, k .1, k .2, s .pre .1 .below .sized)
+put-requires-2 : tie.Need-put-requires-2
+put-requires-2 c κs = let s = c .before .before .before .before .before .before .before .before .before .before .before in (small s .1, ap length (c .before .before .put .ensures) ∙ put-length (c .before .before .before .before .four-times .result .low) (c .before .before .before .before .four-times .result .high) (s .args .x) (s .args .lower .now) ∙ s .pre .1 .below .sized)
+
+put-requires-3 : tie.Need-put-requires-3
+put-requires-3 c κs = let s = c .before .before .before .before .before .before .before .before .before .before .before .before .before in (small s .2, ap length (c .before .put2 .ensures ∙ ap (putNumber (c .before .before .before .twice .result .low) (c .before .before .before .twice .result .high) (s .args .y)) (c .before .before .before .before .put .ensures)) ∙ put-length (c .before .before .before .twice .result .low) (c .before .before .before .twice .result .high) (s .args .y) (putNumber (c .before .before .before .before .before .before .four-times .result .low) (c .before .before .before .before .before .before .four-times .result .high) (s .args .x) (s .args .lower .now)) ∙ put-length (c .before .before .before .before .before .before .four-times .result .low) (c .before .before .before .before .before .before .four-times .result .high) (s .args .x) (s .args .lower .now) ∙ s .pre .1 .below .sized)
+
+put-requires-4 : tie.Need-put-requires-4
+put-requires-4 c κs = let s = c .before .before .before .before .before .before .before .before .before .before .before .before .before .before .before in (small s .0, s .pre .1 .above .sized)
 
 twice-requires-2 : tie.Need-twice-requires-2
 twice-requires-2 c κs = search needs
 
+put-requires-5 : tie.Need-put-requires-5
+put-requires-5 c κs = let s = c .before .before .before .before .before .before .before .before .before .before .before .before .before .before .before .before .before .before in (small s .1, ap length (c .before .before .put4 .ensures) ∙ put-length (c .before .before .before .before .before .before .before .before .before .before .before .before .add3 .result .low) (c .before .before .before .before .before .before .before .before .before .before .before .before .add3 .result .high) (s .args .x) (s .args .upper .now) ∙ s .pre .1 .above .sized)
+
 four-times-requires-2 : tie.Need-four-times-requires-2
 four-times-requires-2 c κs = search needs
 
-put-row-requires-2 : tie.Need-put-row-requires-2
-put-row-requires-2 c κs = let s = entry (c .before .before .before .before .before .before .before .before .before .before) in let k = small s in (k .0, k .1, k .2, s .pre .1 .above .sized)
+put-requires-6 : tie.Need-put-requires-6
+put-requires-6 c κs = let s = c .before .before .before .before .before .before .before .before .before .before .before .before .before .before .before .before .before .before .before .before .before in (small s .2, ap length (c .before .before .put5 .ensures ∙ ap (putNumber (c .before .before .before .before .twice2 .result .low) (c .before .before .before .before .twice2 .result .high) (s .args .y)) (c .before .before .before .before .before .put4 .ensures)) ∙ put-length (c .before .before .before .before .twice2 .result .low) (c .before .before .before .before .twice2 .result .high) (s .args .y) (putNumber (c .before .before .before .before .before .before .before .before .before .before .before .before .before .before .before .add3 .result .low) (c .before .before .before .before .before .before .before .before .before .before .before .before .before .before .before .add3 .result .high) (s .args .x) (s .args .upper .now)) ∙ put-length (c .before .before .before .before .before .before .before .before .before .before .before .before .before .before .before .add3 .result .low) (c .before .before .before .before .before .before .before .before .before .before .before .before .before .before .before .add3 .result .high) (s .args .x) (s .args .upper .now) ∙ s .pre .1 .above .sized)
 
 returns : tie.Need-returns
 returns c =
-    let m = c .before .before .before .before .before .before .before .before .before .before .before in
+    let m = c .before .before .before .before .before .before .before .before .before .before .before .before .before .before .before .before .before .before .before in
     let s = entry m in
     let row = row-read m in
-    let neighbours = c .before .before .before .before .before .before .before .before .before .before .add .ensures in
-    let others = c .before .before .before .before .before .before .before .before .before .add2 .ensures in
-    let middle = middle-is (p m) (q m) (r m) row (middle-fits (c .before .before .before .before .before .before .before .before)) neighbours others (c .before .before .before .before .before .before .before .before .add3 .ensures) in
+    let neighbours = c .before .before .before .before .before .before .before .before .before .before .before .before .before .before .before .before .before .before .add .ensures in
+    let others = c .before .before .before .before .before .before .before .before .before .before .before .before .before .before .before .before .before .add2 .ensures in
+    let middle = middle-is (p m) (q m) (r m) row (middle-fits (c .before .before .before .before .before .before .before .before .before .before .before .before .before .before .before .before)) neighbours others (c .before .before .before .before .before .before .before .before .before .before .before .before .before .before .before .before .add3 .ensures) in
     record {
       below = row-put (s .pre .0) (s .pre .1 .below) _ _ _ _ _ _
-          (first-is (p m) (q m) (r m) row (first-fits (c .before .before .before .before .before .before .before)) (c .before .before .before .before .before .before .before .four-times .ensures) ∙ cut m 0 0)
-          (second-is (p m) (q m) (r m) row (second-fits (c .before .before .before .before .before .before)) neighbours others (c .before .before .before .before .before .before .twice .ensures) ∙ cut m 0 1)
-          (middle ∙ cut m 0 2) (c .before .before .before .before .put-row .ensures);
+          (first-is (p m) (q m) (r m) row (first-fits (c .before .before .before .before .before .before .before .before .before .before .before .before .before .before .before)) (c .before .before .before .before .before .before .before .before .before .before .before .before .before .before .before .four-times .ensures) ∙ cut m 0 0)
+          (second-is (p m) (q m) (r m) row (second-fits (c .before .before .before .before .before .before .before .before .before .before .before .before)) neighbours others (c .before .before .before .before .before .before .before .before .before .before .before .before .twice .ensures) ∙ cut m 0 1)
+          (middle ∙ cut m 0 2) (c .before .before .before .before .before .before .before .before .put3 .ensures ∙ ap (putNumber (c .before .before .before .before .before .before .before .before .before .before .before .before .before .before .before .before .add3 .result .low) (c .before .before .before .before .before .before .before .before .before .before .before .before .before .before .before .before .add3 .result .high) (s .args .z)) (c .before .before .before .before .before .before .before .before .before .before .put2 .ensures ∙ ap (putNumber (c .before .before .before .before .before .before .before .before .before .before .before .before .twice .result .low) (c .before .before .before .before .before .before .before .before .before .before .before .before .twice .result .high) (s .args .y)) (c .before .before .before .before .before .before .before .before .before .before .before .before .before .put .ensures)));
       above = row-put (s .pre .0) (s .pre .1 .above) _ _ _ _ _ _
           (middle ∙ cut m 1 0)
-          (fourth-is (p m) (q m) (r m) row (fourth-fits (c .before .before .before)) neighbours others (c .before .before .before .twice2 .ensures) ∙ cut m 1 1)
-          (last-is (p m) (q m) (r m) row (last-fits (c .before .before)) (c .before .before .four-times2 .ensures) ∙ cut m 1 2) (c .put-row2 .ensures);
+          (fourth-is (p m) (q m) (r m) row (fourth-fits (c .before .before .before .before .before)) neighbours others (c .before .before .before .before .before .twice2 .ensures) ∙ cut m 1 1)
+          (last-is (p m) (q m) (r m) row (last-fits (c .before .before)) (c .before .before .four-times2 .ensures) ∙ cut m 1 2) (c .put6 .ensures ∙ ap (putNumber (c .before .before .four-times2 .result .low) (c .before .before .four-times2 .result .high) (s .args .z)) (c .before .before .before .put5 .ensures ∙ ap (putNumber (c .before .before .before .before .before .twice2 .result .low) (c .before .before .before .before .before .twice2 .result .high) (s .args .y)) (c .before .before .before .before .before .before .put4 .ensures)));
     }
 
 pub cut-row-spec : {M : Type 1} → statement M
@@ -133,9 +146,13 @@ cut-row-spec =
     add-requires-2
     add-requires-3
     four-times-requires
+    put-requires
     twice-requires
-    put-row-requires
+    put-requires-2
+    put-requires-3
+    put-requires-4
     twice-requires-2
+    put-requires-5
     four-times-requires-2
-    put-row-requires-2
+    put-requires-6
     returns)

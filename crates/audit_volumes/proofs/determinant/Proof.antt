@@ -1,45 +1,30 @@
--- `determinant` meets its contract: the minors fit one word, the products with them two, and so does their sum. Assumes nothing.
-use borrow.Author.Needs.{needs}
-use mathlib.Core.Path.{_≡_, _∙_, ap, ap₂}
+-- `audit_volumes::determinant` meets its contract: it fits two words, so nothing is lost on the way. Assumes nothing.
+use mathlib.Core.Path.{_≡_, _∙_}
 use mathlib.Core.List.{List, [], _∷_, _++_}
-use Prim.Native.Nat.{ℕ, _≤_}
+use Prim.Native.Nat.{ℕ}
 use native.Mathlib.Omega.{arith}
-use lib.Dec.{T}
-use lib.IntN.{ℤ, natAbs, _+ℤ_, _-ℤ_, _*ℤ_}
-use mir.Syntax.{w64, w128}
+use lib.IntN.{ℤ, _+ℤ_, _-ℤ_, _*ℤ_}
+use mir.Syntax.{w128}
 use mir.Val.{SFits}
-use Rattle.foundation.specs.Polynomial.{eval, integers}
-use Rattle.foundation.specs.Words.{Op, arg, minus, times, plus, formula, fits, held, result, args, split, within, within-split, result-fits, held-is}
+use mir.Facts.{toZ-ofZ}
+use Rattle.foundation.specs.Polynomial.{integers}
+use Rattle.foundation.specs.Words.{Op, arg, minus, times, plus, args, within}
 use Rattle.definitions.specs.Jacobian.{det}
 use Rattle.wrapping_theory.specs.Runs.{size-fits, run-exact}
 use Rattle.wrapping_theory.specs.Words.{value-fits}
 use Rattle.wide_number.specs.Meaning.{modulo}
 use Rattle.element_vectors.specs.Sizes.{det-small}
 use Rattle.audit_volumes.specs.Limits.{edgeLimit, middleLimit, volumeLimit}
+use borrow.Author.Needs.{needs}
 use Rattle.audit_volumes.proofs.determinant.Statement.{statement}
 use Rattle.audit_volumes.proofs.determinant.Tie as tie
 
--- a product of a coordinate of v, the first number, with one of w, the second
-abbrev vw : ℕ → ℕ → Op
-vw i j = times (arg i) (arg j)
+-- a product of a coordinate of v, the first number, with one of w, the second; a coordinate of u with a minor
+abbrev minor : ℕ → ℕ → ℕ → ℕ → Op
+minor i j k l = minus (times (arg i) (arg l)) (times (arg j) (arg k))
 
--- the minors, by the axis of u that each goes with
-abbrev minor-x : Op
-minor-x = minus (vw 4 8) (vw 5 7)
-
-abbrev minor-y : Op
-minor-y = minus (vw 3 8) (vw 5 6)
-
-abbrev minor-z : Op
-minor-z = minus (vw 3 7) (vw 4 6)
-
--- the limits of the nine numbers
-abbrev limits : ℕ → ℕ
-limits = split 3 edgeLimit middleLimit
-
--- what is done with the three products
-abbrev joined : Op
-joined = plus (minus (arg 0) (arg 1)) (arg 2)
+abbrev whole : Op
+whole = plus (minus (times (arg 0) (minor 4 5 7 8)) (times (arg 1) (minor 3 5 6 8))) (times (arg 2) (minor 3 4 6 7))
 
 module _ (s : tie.Start) where
   abbrev first : List ℤ
@@ -51,63 +36,54 @@ module _ (s : tie.Start) where
   abbrev third : List ℤ
   third = s .args .wx ∷ s .args .wy ∷ s .args .wz ∷ []
 
-  abbrev numbers : ℕ → ℤ
-  numbers = args (first ++ second ++ third)
-
-  bounded : (i : ℕ) → natAbs (numbers i) ≤ limits i
-  bounded = let v = s .pre .1 .0 in within-split edgeLimit middleLimit first (second ++ third) (s .pre .0) (v .0, (v .1 .0, (v .1 .1 .0, s .pre .1 .1)))
-
-  -- each operation on the nine fits one word
-  fit : (o : Op) → T (fits limits o) → SFits w64 (result numbers o)
-  fit = result-fits numbers limits bounded
-
-  -- a coordinate of u and a minor, as a call is given them
-  given : (i : ℕ) (o : Op) → T (fits limits (arg i)) → T (fits limits o) → held numbers (arg i) *ℤ held numbers o ≡ numbers i *ℤ eval numbers (formula o)
-  given i o t r = ap₂ _*ℤ_ (held-is numbers limits bounded (arg i) t) (held-is numbers limits bounded o r)
-
-  -- the three products
-  abbrev products : List ℤ
-  products = (numbers 0 *ℤ eval numbers (formula minor-x)) ∷ (numbers 1 *ℤ eval numbers (formula minor-y)) ∷ (numbers 2 *ℤ eval numbers (formula minor-z)) ∷ []
-
   whole-fits : SFits w128 (det integers (args first) (args second) (args third))
   whole-fits = size-fits w128 volumeLimit (det integers (args first) (args second) (args third))
       (det-small edgeLimit middleLimit (args first) (args second) (args third) (within edgeLimit first (s .pre .0)) (within middleLimit second (s .pre .1 .0)) (within middleLimit third (s .pre .1 .1))) tt
 
-mul-product : tie.Need-mul-product
-mul-product c = fit c (vw 4 8) tt
+from-i64-requires : tie.Need-from-i64-requires
+from-i64-requires c κs = search needs
 
-mul-product-2 : tie.Need-mul-product-2
-mul-product-2 c = fit c (vw 5 7) tt
+from-i64-requires-2 : tie.Need-from-i64-requires-2
+from-i64-requires-2 c κs = search needs
 
-sub-product : tie.Need-sub-product
-sub-product c = fit c minor-x tt
+from-i64-requires-3 : tie.Need-from-i64-requires-3
+from-i64-requires-3 c κs = search needs
 
-product-requires : tie.Need-product-requires
-product-requires c κs = search needs
+from-i64-requires-4 : tie.Need-from-i64-requires-4
+from-i64-requires-4 c κs = search needs
 
-mul-product-3 : tie.Need-mul-product-3
-mul-product-3 c = fit (c .before) (vw 3 8) tt
+from-i64-requires-5 : tie.Need-from-i64-requires-5
+from-i64-requires-5 c κs = search needs
 
-mul-product-4 : tie.Need-mul-product-4
-mul-product-4 c = fit (c .before) (vw 5 6) tt
+from-i64-requires-6 : tie.Need-from-i64-requires-6
+from-i64-requires-6 c κs = search needs
 
-sub-product-2 : tie.Need-sub-product-2
-sub-product-2 c = fit (c .before) minor-y tt
+from-i64-requires-7 : tie.Need-from-i64-requires-7
+from-i64-requires-7 c κs = search needs
 
-product-requires-2 : tie.Need-product-requires-2
-product-requires-2 c κs = search needs
+from-i64-requires-8 : tie.Need-from-i64-requires-8
+from-i64-requires-8 c κs = search needs
 
-mul-product-5 : tie.Need-mul-product-5
-mul-product-5 c = fit (c .before .before) (vw 3 7) tt
+from-i64-requires-9 : tie.Need-from-i64-requires-9
+from-i64-requires-9 c κs = search needs
 
-mul-product-6 : tie.Need-mul-product-6
-mul-product-6 c = fit (c .before .before) (vw 4 6) tt
+minor-requires : tie.Need-minor-requires
+minor-requires c κs = search needs
 
-sub-product-3 : tie.Need-sub-product-3
-sub-product-3 c = fit (c .before .before) minor-z tt
+mul-requires : tie.Need-mul-requires
+mul-requires c κs = search needs
 
-product-requires-3 : tie.Need-product-requires-3
-product-requires-3 c κs = search needs
+minor-requires-2 : tie.Need-minor-requires-2
+minor-requires-2 c κs = search needs
+
+mul-requires-2 : tie.Need-mul-requires-2
+mul-requires-2 c κs = search needs
+
+minor-requires-3 : tie.Need-minor-requires-3
+minor-requires-3 c κs = search needs
+
+mul-requires-3 : tie.Need-mul-requires-3
+mul-requires-3 c κs = search needs
 
 sub-requires : tie.Need-sub-requires
 sub-requires c κs = search needs
@@ -116,27 +92,32 @@ add-requires : tie.Need-add-requires
 add-requires c κs = search needs
 
 returns : tie.Need-returns
-returns c = let d = c .before in let z = d .before in let y = z .before in let x = y .before in let s = x .before in
-    let difference = d .sub .ensures ∙ ap modulo (ap₂ _-ℤ_ (x .product .ensures ∙ given s 0 minor-x tt tt) (y .product2 .ensures ∙ given s 1 minor-y tt tt)) in
-    run-exact w128 (args (products s)) joined (value-fits (c .add .result .low) (c .add .result .high) (record { low-word = omega (arith, c .add .ok .1); high-word = omega (arith, c .add .ok .1) }))
-    (c .add .ensures ∙ ap modulo (ap₂ _+ℤ_ difference (z .product3 .ensures ∙ given s 2 minor-z tt tt))) (whole-fits s)
+returns c = let s = c .before .before .before .before .before .before .before .before .before .before .before .before .before .before .before .before .before in
+    let x = c .before .before .before .before .before .before .mul .ensures ∙ (λ i. modulo ((c .before .before .before .before .before .before .before .before .before .before .from-i647 .ensures ∙ toZ-ofZ (s .fits .ux)) i *ℤ (c .before .before .before .before .before .before .before .minor .ensures ∙ λ i. modulo (modulo ((c .before .before .before .before .before .before .before .before .before .before .before .before .before .before .before .from-i642 .ensures ∙ toZ-ofZ (s .fits .vy)) i *ℤ (c .before .before .before .before .before .before .before .before .before .before .before .from-i646 .ensures ∙ toZ-ofZ (s .fits .wz)) i) -ℤ modulo ((c .before .before .before .before .before .before .before .before .before .before .before .before .before .before .from-i643 .ensures ∙ toZ-ofZ (s .fits .vz)) i *ℤ (c .before .before .before .before .before .before .before .before .before .before .before .before .from-i645 .ensures ∙ toZ-ofZ (s .fits .wy)) i))) i)) in
+    let y = c .before .before .before .before .mul2 .ensures ∙ (λ i. modulo ((c .before .before .before .before .before .before .before .before .before .from-i648 .ensures ∙ toZ-ofZ (s .fits .uy)) i *ℤ (c .before .before .before .before .before .minor2 .ensures ∙ λ i. modulo (modulo ((c .before .before .before .before .before .before .before .before .before .before .before .before .before .before .before .before .from-i64 .ensures ∙ toZ-ofZ (s .fits .vx)) i *ℤ (c .before .before .before .before .before .before .before .before .before .before .before .from-i646 .ensures ∙ toZ-ofZ (s .fits .wz)) i) -ℤ modulo ((c .before .before .before .before .before .before .before .before .before .before .before .before .before .before .from-i643 .ensures ∙ toZ-ofZ (s .fits .vz)) i *ℤ (c .before .before .before .before .before .before .before .before .before .before .before .before .before .from-i644 .ensures ∙ toZ-ofZ (s .fits .wx)) i))) i)) in
+    let z = c .before .before .mul3 .ensures ∙ (λ i. modulo ((c .before .before .before .before .before .before .before .before .from-i649 .ensures ∙ toZ-ofZ (s .fits .uz)) i *ℤ (c .before .before .before .minor3 .ensures ∙ λ i. modulo (modulo ((c .before .before .before .before .before .before .before .before .before .before .before .before .before .before .before .before .from-i64 .ensures ∙ toZ-ofZ (s .fits .vx)) i *ℤ (c .before .before .before .before .before .before .before .before .before .before .before .before .from-i645 .ensures ∙ toZ-ofZ (s .fits .wy)) i) -ℤ modulo ((c .before .before .before .before .before .before .before .before .before .before .before .before .before .before .before .from-i642 .ensures ∙ toZ-ofZ (s .fits .vy)) i *ℤ (c .before .before .before .before .before .before .before .before .before .before .before .before .before .from-i644 .ensures ∙ toZ-ofZ (s .fits .wx)) i))) i)) in
+    run-exact w128 (args (first s ++ second s ++ third s)) whole (value-fits (c .add .result .low) (c .add .result .high) (record { low-word = omega (arith, c .add .ok .1); high-word = omega (arith, c .add .ok .1) }))
+    (c .add .ensures ∙ (λ i. modulo ((c .before .sub .ensures ∙ λ i. modulo (x i -ℤ y i)) i +ℤ z i))) (whole-fits s)
 
 pub determinant-spec : {M : Type 1} → statement M
 determinant-spec =
     tie.close
     (tie.spec
-    mul-product
-    mul-product-2
-    sub-product
-    product-requires
-    mul-product-3
-    mul-product-4
-    sub-product-2
-    product-requires-2
-    mul-product-5
-    mul-product-6
-    sub-product-3
-    product-requires-3
+    from-i64-requires
+    from-i64-requires-2
+    from-i64-requires-3
+    from-i64-requires-4
+    from-i64-requires-5
+    from-i64-requires-6
+    from-i64-requires-7
+    from-i64-requires-8
+    from-i64-requires-9
+    minor-requires
+    mul-requires
+    minor-requires-2
+    mul-requires-2
+    minor-requires-3
+    mul-requires-3
     sub-requires
     add-requires
     returns)

@@ -1,10 +1,10 @@
 -- `put_row` meets its contract: a number put leaves 54 words. Assumes nothing.
 use mathlib.Core.Path.{ap, _∙_}
 use lib.ListN.{length}
 use Rattle.wide_array.specs.Values.{putNumber, put-length}
 use borrow.Author.Needs.{needs}
-use Rattle.wide_array.proofs.put_row.Statement.{statement}
-use Rattle.wide_array.proofs.put_row.Tie as tie
+use Rattle.wide_rows.proofs.put_row.Statement.{statement}
+use Rattle.wide_rows.proofs.put_row.Tie as tie
 
 put-requires : tie.Need-put-requires
 put-requires c κs = search needs
