@@ -1,5 +1,5 @@
-// The 27 Bézier coefficients of eight points whose coordinates go to 1,048,576, in numbers of two words. An inner crate, for a second
-// inspector: a second way to what `narrow_coefficients` and `wide_coefficients` give. It has its own volumes, from `audit_volumes`, and works
+// The 27 Bézier coefficients of eight points whose coordinates go to 1,048,576, in numbers of two words. An inner crate, for
+// `audit_points`: a second way to what `narrow_coefficients` and `wide_coefficients` give. It has its own volumes, from `audit_volumes`, and works
 // the rows from the table in full, modulo 2^128. A coefficient is in range, so nothing is lost.
 ghost use mathlib.Core.Path.{_≡_};
 ghost use Prim.Native.Nat.{_<_};

@@ -11,8 +11,7 @@ use lib.IntN.{ℤ, pos}
 use lib.Signed.{leZ}
 use Rattle.foundation.specs.Least.{leastFrom}
 use Rattle.definitions.specs.Verdict.{Finding, blocked}
-use Rattle.verdict_theory.specs.Search.{Found, nothing, coefficient, point, ended, openCell, visit}
-use Rattle.verdict_theory.specs.Extremes.{with}
+use Rattle.verdict_theory.specs.Search.{Found, point, ended, openCell, visit}
 use Rattle.search_theory.specs.Meaning.{cellOf, lowFrom, lowest}
 use Rattle.search_theory.specs.Lowest.{withCoefficient, atCorner, atCell, opened-corner, opened-coefficient, clear, low}
 use Rattle.search_theory.specs.Visit.{visit-none}

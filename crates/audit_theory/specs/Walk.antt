@@ -7,7 +7,7 @@ use Prim.Native.Nat.{ℕ, zero, suc, _+_, _^_, _≤_}
 use native.Mathlib.Omega.{arith}
 use Rattle.definitions.specs.Subdivision.{Cell, children}
 use Rattle.definitions.specs.Verdict.{blocked}
-use Rattle.verdict_theory.specs.Search.{Found, Pass, ended, openCell, openAll, visit}
+use Rattle.verdict_theory.specs.Search.{Pass, ended, openCell, openAll, visit}
 use Rattle.verdict_theory.specs.Extremes.{Extremes, with, withAll, extremes}
 use Rattle.search_theory.specs.Visit.{visit-count}
 
@@ -75,10 +75,6 @@ pub walk-last : (m : ℕ) (s : Cell) (n : Notes) → m ≡ 0 → noted s n ≡ w
 unfolding walk
 walk-last m s n e = ap (λ (k : ℕ). walk k s n) (sym e)
 
-pub walk-stops : (m : ℕ) (s : Cell) (n : Notes) → stops s n ≡ true → n ≡ walk (suc m) s n
+pub walk-by : (m : ℕ) (s : Cell) (n : Notes) (b : Bool) → stops s n ≡ b → elim b as (λ _. Notes) [ true ↦ n | false ↦ through (walk m) (children s) n ] ≡ walk (suc m) s n
 unfolding walk
-walk-stops m s n e = sym (ap (λ (b : Bool). elim b as (λ _. Notes) [ true ↦ n | false ↦ through (walk m) (children s) n ]) e)
-
-pub walk-goes : (m : ℕ) (s : Cell) (n : Notes) → stops s n ≡ false → through (walk m) (children s) n ≡ walk (suc m) s n
-unfolding walk
-walk-goes m s n e = sym (ap (λ (b : Bool). elim b as (λ _. Notes) [ true ↦ n | false ↦ through (walk m) (children s) n ]) e)
+walk-by m s n b e = sym (ap (λ (t : Bool). elim t as (λ _. Notes) [ true ↦ n | false ↦ through (walk m) (children s) n ]) e)

@@ -34,7 +34,7 @@ module _ (L : Limits) (coordinates : List ℤ) (indices : List ℕ) (space : Lis
   pub refused-answer : (r : MeshRefusal) → refusalHere ≡ some r → inspection L coordinates indices (length space) D ≡ meshRefused r
   refused-answer r e = answer-is (some r) e
 
-  pub refused-space : (r : MeshRefusal) → refusalHere ≡ some r → reportAfter L coordinates indices space D ≡ space
+  refused-space : (r : MeshRefusal) → refusalHere ≡ some r → reportAfter L coordinates indices space D ≡ space
   refused-space r e = space-is (some r) e
 
   pub accepted-answer : refusalHere ≡ none → inspection L coordinates indices (length space) D ≡ meshAccepted (countsOf (records L coordinates indices D))

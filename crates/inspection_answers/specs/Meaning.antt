@@ -1,4 +1,4 @@
--- What the answers stand for: document 01's numbers and values for each case.
+-- What the answers stand for in the definitions, case by case; document 01's numbers are given there.
 use Rattle.definitions.specs.Mesh.{depthTooGreat, badCoordinates, badIndices, badSpace, Inspection, meshAccepted, meshRefused, Bounds, bounds, tooDeep, outOfLimits}
 use Rattle.wide_number.specs.Meaning.{valueOf}
 use Rattle.inspection_counts.specs.Meaning.{countsHeld}

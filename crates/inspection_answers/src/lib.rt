@@ -1,5 +1,5 @@
 // The answers of an inspection and of the bounds service. Public: the inspector and the auditor answer with them, `brundhal_mesh_answers` and
-// `brundhal_bounds_answers` turn them into plain numbers. specs/Meaning.antt has document 01's number and values for each case.
+// `brundhal_bounds_answers` turn them into plain numbers. specs/Meaning.antt says what each case stands for.
 use inspection_counts::Counts;
 use wide_number::Wide;
 

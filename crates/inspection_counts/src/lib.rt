@@ -1,7 +1,7 @@
 // The counts of an inspection and the stamp that they give. Public: nothing has to be checked first, and any counts are answered.
 //   Counts, Stamp  how many records there are of each kind, and the three stamps
 //   stamp_of       the stamp of an accepted mesh, by its counts
-// The inspection that answers with counts is in the crate `inspector`.
+// The inspections that answer with counts are in the crates `inspector` and `auditor`.
 ghost use mathlib.Core.Path.{_≡_};
 ghost use Rattle.definitions.specs.Mesh.{stampOf};
 ghost use Rattle.inspection_counts.specs.Meaning.{countsHeld, stampHeld};

@@ -1,9 +1,9 @@
 -- Promise 3 of what the services write and answer: for any meshes in which the same eight points stand, whatever else they hold; and for any eight points within the limits, in a mesh of their own.
 use mathlib.Core.Path.{_≡_, sym, _∙_, ap, subst}
-use mathlib.Core.List.{List, [], _∷_, _++_}
+use mathlib.Core.List.{List}
 use mathlib.Core.Logic.{_⊎_, inl, inr}
 use mathlib.Core.Option.{none}
-use Prim.Native.Nat.{ℕ, zero, suc, _+_, _*_, _-_, _/_, _<_, _≤_, _^_}
+use Prim.Native.Nat.{ℕ, _*_, _-_, _/_, _<_, _≤_, _^_}
 use native.Mathlib.Omega.{arith}
 use lib.ListN.{length, take, drop}
 use lib.Seq.{take-all}
@@ -13,13 +13,13 @@ use Rattle.definitions.specs.Limits.{Limits, base, recordWords}
 use Rattle.definitions.specs.Jacobian.{jacobian}
 use Rattle.definitions.specs.Bounds.{low, high}
 use Rattle.definitions.specs.Record.{recordOf, kindWord}
-use Rattle.definitions.specs.Mesh.{refusal, pointsOf, outOfRange, faultOf, elementRecord, reportAfter, bounds, boundsOf}
-use Rattle.verdict_theory.specs.DepthMonotone.{DepthMonotone, depth-monotone}
+use Rattle.definitions.specs.Mesh.{refusal, pointsOf, outOfRange, faultOf, reportAfter, bounds, boundsOf}
+use Rattle.verdict_theory.specs.DepthMonotone.{depth-monotone}
 use Rattle.verdict_theory.specs.Elements.{element-points, report-length}
 use Rattle.mesh_checks.specs.Refusals.{accepted-mesh}
 use Rattle.mesh_elements.specs.Elements.{whole-element}
 use Rattle.inspector.specs.Reports.{report-part}
-use Rattle.inspection_answers.specs.Answers.{refusalHere, accepted-space, bounds-inside}
+use Rattle.inspection_answers.specs.Answers.{accepted-space, bounds-inside}
 use Rattle.inspector.specs.Own.{inOrder, own-points, own-element, own-mesh}
 
 -- A mesh as a caller hands it in, with its report space.

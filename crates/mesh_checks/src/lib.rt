@@ -1,5 +1,5 @@
 // Which meshes are refused. A mesh is a run of coordinates, three per node, and a run of indices, eight per element.
-// An inner crate: only the inspector's own crates call it, and they meet what each `requires` asks.
+// An inner crate: only the crates of the two inspectors call it, and they meet what each `requires` asks.
 // The answer is an equation with `Mesh` of the definitions at the limits `base`.
 ghost use mathlib.Core.Path.{_≡_};
 ghost use Prim.Native.Nat.{_<_};

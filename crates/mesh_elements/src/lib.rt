@@ -1,5 +1,5 @@
 // Which elements are refused, and the record of one that is.
-// An inner crate: only the inspector's own crates call it, and they meet what each `requires` asks.
+// An inner crate: only the crates of the two inspectors call it, and they meet what each `requires` asks.
 // Every answer is an equation with `Mesh` and `Record` of the definitions at the limits `base`.
 ghost use mathlib.Core.Path.{_≡_};
 ghost use lib.ListN.{length};

@@ -1,5 +1,5 @@
 // An element's eight indices: the first that names no node, and the first two places with one index.
-// An inner crate: only the inspector's own crates call it, and they meet what each `requires` asks.
+// An inner crate: only the crates of the two inspectors call it, and they meet what each `requires` asks.
 // An element's place is the position 1 to 8 of one of its indices. Every answer is an equation with `Mesh` of the definitions.
 ghost use mathlib.Core.Path.{_≡_};
 ghost use Prim.Native.Nat.{_<_};

@@ -1,5 +1,5 @@
 // An element's eight points, and whether they lie within the limits: x, y, z of each place, 24 coordinates.
-// An inner crate: only the inspector's own crates call it, and they meet what each `requires` asks.
+// An inner crate: only the crates of the two inspectors call it, and they meet what each `requires` asks.
 // Every answer is an equation with `Mesh` of the definitions at the limits `base`.
 ghost use mathlib.Core.Path.{_≡_};
 ghost use Prim.Native.Nat.{ℕ, _/_, _<_};

@@ -1,13 +1,13 @@
 -- The report as it is written, element after element: the records so far, their counts, and the space after them.
-use mathlib.Core.Path.{_≡_, refl, sym, _∙_, ap, ap₂, subst}
+use mathlib.Core.Path.{_≡_, refl, sym, _∙_, ap, ap₂}
 use mathlib.Core.Bool.{true}
 use mathlib.Core.List.{List, [], _∷_, _++_}
 use Prim.Native.Nat.{ℕ, zero, suc, _+_, _*_, _-_, _/_, _^_, _<_, _≤_, zero-le}
 use native.Mathlib.Omega.{arith}
-use lib.ListN.{getD, length, take, drop, length-append, length-drop, drop-of-length-le}
-use lib.Seq.{length-take-le, take-at, drop-at, drop-drop}
-use lib.IntN.{ℤ, pos, natAbs}
-use Rattle.foundation.specs.Lists.{All, all-tabulate, concatMap, concatMap-append, append-nil, tabulate, length-tabulate, tabulate-at}
+use lib.ListN.{length, take, drop, length-append, length-drop, drop-of-length-le}
+use lib.Seq.{length-take-le}
+use lib.IntN.{ℤ}
+use Rattle.foundation.specs.Lists.{all-tabulate, concatMap, concatMap-append, append-nil, tabulate, length-tabulate}
 use Rattle.definitions.specs.Limits.{Limits, recordWords}
 use Rattle.definitions.specs.Record.{kindWord}
 use Rattle.definitions.specs.Mesh.{Counts, elementRecord, records, report, countsOf}
@@ -31,40 +31,40 @@ module _ (L : Limits) (coordinates : List ℤ) (indices : List ℕ) (D : ℕ) wh
   abbrev pub recordAt : ℕ → List ℤ
   recordAt e = elementRecord L coordinates (take 8 (drop (8 * e) indices)) D
 
-  abbrev pub firstRecords : ℕ → List (List ℤ)
+  abbrev firstRecords : ℕ → List (List ℤ)
   firstRecords e = tabulate recordAt 0 e
 
-  abbrev pub written : ℕ → List ℤ
+  abbrev written : ℕ → List ℤ
   written e = concatMap (λ r. r) (firstRecords e)
 
   -- the report space when the first e records are written
-  abbrev pub spaceAt : ℕ → List ℤ → List ℤ
+  abbrev spaceAt : ℕ → List ℤ → List ℤ
   spaceAt e space = written e ++ drop (recordWords * e) space
 
-  pub written-length : (e : ℕ) → length (written e) ≡ recordWords * e
+  written-length : (e : ℕ) → length (written e) ≡ recordWords * e
   written-length e = concat-length (firstRecords e) (all-tabulate (λ r. length r ≡ recordWords) recordAt 0 e (λ k _ _. element-length L coordinates (take 8 (drop (8 * k) indices)) D)) ∙ ap (λ (n : ℕ). recordWords * n) (length-tabulate recordAt 0 e)
 
-  pub space-length : (e : ℕ) (space : List ℤ) → recordWords * e ≤ length space → length (spaceAt e space) ≡ length space
+  space-length : (e : ℕ) (space : List ℤ) → recordWords * e ≤ length space → length (spaceAt e space) ≡ length space
   space-length e space h = simp (length-append, length-drop) (omega (arith, written-length e))
 
-  pub written-next : (e : ℕ) → written (e + 1) ≡ written e ++ recordAt e
+  written-next : (e : ℕ) → written (e + 1) ≡ written e ++ recordAt e
   written-next e = ap (concatMap (λ r. r)) (tabulate-last recordAt 0 e) ∙ concat-last (firstRecords e) (recordAt (0 + e)) ∙ ap (λ (k : ℕ). written e ++ recordAt k) zero-plus
     where
       zero-plus : 0 + e ≡ e
       zero-plus = omega arith
 
-  pub counts-next : (e : ℕ) → countsOf (firstRecords (e + 1)) ≡ counted (kindWord (recordAt e)) (countsOf (firstRecords e))
+  counts-next : (e : ℕ) → countsOf (firstRecords (e + 1)) ≡ counted (kindWord (recordAt e)) (countsOf (firstRecords e))
   counts-next e = ap countsOf (tabulate-last recordAt 0 e) ∙ counts-last (firstRecords e) (recordAt (0 + e)) ∙ ap (λ (k : ℕ). counted (kindWord (recordAt k)) (countsOf (firstRecords e))) zero-plus
     where
       zero-plus : 0 + e ≡ e
       zero-plus = omega arith
 
   -- all of them
-  pub space-last : (e : ℕ) (space : List ℤ) → e ≡ length indices / 8 → length space ≡ recordWords * (length indices / 8) → spaceAt e space ≡ report L coordinates indices D
+  space-last : (e : ℕ) (space : List ℤ) → e ≡ length indices / 8 → length space ≡ recordWords * (length indices / 8) → spaceAt e space ≡ report L coordinates indices D
   unfolding report records
   space-last e space h k = let p : length space ≤ recordWords * e = omega arith in ap (λ (l : List ℤ). written e ++ l) (drop-of-length-le space p) ∙ append-nil (written e) ∙ ap written h
 
-  pub counts-last-of : (e : ℕ) → e ≡ length indices / 8 → countsOf (firstRecords e) ≡ countsOf (records L coordinates indices D)
+  counts-last-of : (e : ℕ) → e ≡ length indices / 8 → countsOf (firstRecords e) ≡ countsOf (records L coordinates indices D)
   unfolding records
   counts-last-of e h = ap (λ (n : ℕ). countsOf (firstRecords n)) h
 
@@ -77,11 +77,11 @@ part-length indices e h = ap length (part-of indices e) ∙ length-take-le 8 (dr
 
 module _ (L : Limits) (coordinates : List ℤ) (indices : List ℕ) (D : ℕ) where
   -- as many are counted as are written
-  pub counted-so-far : (e : ℕ) → countsTotal (countsOf (firstRecords L coordinates indices D e)) ≡ e
+  counted-so-far : (e : ℕ) → countsTotal (countsOf (firstRecords L coordinates indices D e)) ≡ e
   counted-so-far e = counts-total (firstRecords L coordinates indices D e) (all-tabulate HasKind (recordAt L coordinates indices D) 0 e (λ k _ _. element-kind L coordinates (take 8 (drop (8 * k) indices)) D)) ∙ length-tabulate (recordAt L coordinates indices D) 0 e
 
   -- record e put after those before it
-  pub put-record : (e : ℕ) (space now words : List ℤ) → now ≡ spaceAt L coordinates indices D e space → words ≡ recordAt L coordinates indices D e
+  put-record : (e : ℕ) (space now words : List ℤ) → now ≡ spaceAt L coordinates indices D e space → words ≡ recordAt L coordinates indices D e
       → take (recordWords * e) now ++ words ++ drop (recordWords * e + recordWords) now ≡ spaceAt L coordinates indices D (e + 1) space
   put-record e space now words h k = ap₂ (λ (n w : List ℤ). take (recordWords * e) n ++ w ++ drop (recordWords * e + recordWords) n) h k
       ∙ put-next (written L coordinates indices D e) space (recordAt L coordinates indices D e) e (written-length L coordinates indices D e)

@@ -5,7 +5,7 @@ use mathlib.Core.List.{List, [], _∷_}
 use Prim.Native.Nat.{ℕ, _+_, _<_}
 use native.Mathlib.Omega.{arith}
 use lib.ListN.{getD, length}
-use lib.IntN.{ℤ, pos, negsuc}
+use lib.IntN.{ℤ, pos}
 use Rattle.definitions.specs.Mesh.{Counts}
 use Rattle.verdict_theory.specs.Kinds.{isKind, Kind, kind0, kind1, kind2, kind5, kind6, kind7, kind-of, counted}
 

@@ -13,7 +13,7 @@ use inspection_counts::Counts;
 use limits::RECORD_WORDS;
 
 // The words of record e into the report space; the rest of it stays.
-pub fn put(report: &mut [i64], e: usize, words: [i64; RECORD_WORDS])
+fn put(words: [i64; RECORD_WORDS], e: usize, report: &mut [i64])
     requires { ⌜ recordWords * e + recordWords ≤ length (now report) ⌝ }
     ensures { λ _. ⌜ now (report .exit) ≡ take (recordWords * e) (now (report .entry)) ++ words ++ drop (recordWords * e + recordWords) (now (report .entry)) ⌝ }
 {
@@ -68,6 +68,6 @@ pub fn enter(words: [i64; RECORD_WORDS], e: usize, n: Counts, report: &mut [i64]
     ensures { λ r. ⌜ now (report .exit) ≡ take (recordWords * e) (now (report .entry)) ++ words ++ drop (recordWords * e + recordWords) (now (report .entry)) ⌝ }
 {
     let kind = words[0];
-    put(report, e, words);
+    put(words, e, report);
     counted(kind, n)
 }

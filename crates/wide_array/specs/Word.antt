@@ -1,4 +1,4 @@
--- What fits the two words, signed, in which these crates hold a number.
+-- What fits the two words, signed, in which the crates `wide_*` and `audit_*` hold a number.
 use mathlib.Core.Path.{_≡_, refl}
 use Prim.Native.Nat.{ℕ, _+_, _*_, _-_, _/_, _^_, _≤_}
 use native.Mathlib.Omega.{arith}

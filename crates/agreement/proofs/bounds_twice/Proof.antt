@@ -1,5 +1,5 @@
 -- `agreement::bounds_twice` meets its contract: both answers are the definition's. Assumes nothing.
-use mathlib.Core.Path.{_≡_, sym, ap, _∙_}
+use mathlib.Core.Path.{sym, ap, _∙_}
 use Rattle.inspection_answers.specs.Meaning.{boundsHeld}
 use Rattle.inspection_answers.specs.Back.{boundsBack}
 use borrow.Author.Needs.{needs}

@@ -1,5 +1,5 @@
 -- `agreement::inspect_twice` meets its contract: both answers are the definition's. Assumes nothing.
-use mathlib.Core.Path.{_≡_, sym, _∙_}
+use mathlib.Core.Path.{sym, _∙_}
 use lib.ListN.{length}
 use denote.Ref.{now}
 use Rattle.definitions.specs.Limits.{base}

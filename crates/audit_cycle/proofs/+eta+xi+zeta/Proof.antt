@@ -1,6 +1,7 @@
 -- The proof of the cycle of calls {ξ, η, ζ}: the cuts left fall by one at each call. ξ cuts a cell that is not of the last level, η both halves, ζ the four quarters, and
 -- goes through the eight children in path order. Assumes nothing.
 use mathlib.Core.Path.{_≡_, refl, sym, ap, subst, _∙_}
+use mathlib.Core.Bool.{true, false}
 use mathlib.Core.List.{List}
 use Prim.Native.Nat.{ℕ, suc, _+_, _*_, _-_, _/_, _%_, _^_, _<_}
 use native.Mathlib.Omega.{arith}
@@ -9,9 +10,9 @@ use denote.Ref.{now}
 use Rattle.definitions.specs.Subdivision.{halve, Cell, children}
 use Rattle.expansion_theory.specs.Control.{Cuttable}
 use Rattle.verdict_theory.specs.Clear.{childControl}
-use Rattle.search_theory.specs.Meaning.{cellOf, Small, Grid, Room}
+use Rattle.search_theory.specs.Meaning.{cellOf, Grid, Room}
 use Rattle.search_theory.specs.Children.{grid-doubled}
-use Rattle.audit_theory.specs.Walk.{Notes, opened, stops, through, walk, walk-last, walk-stops, walk-goes}
+use Rattle.audit_theory.specs.Walk.{Notes, opened, stops, through, walk, walk-last, walk-by}
 use Rattle.audit_theory.specs.Cuts.{first-cut, second-cut, third-cut, Halves, Quarters, InHalves, InQuarters, quarters-of, made-room, made-cell, over, over-next, over-all, over-room, levels-left, same-levels, last-levels, none-more}
 use Rattle.wide_array.specs.Values.{values}
 use Rattle.wide_array.specs.Word.{largest}
@@ -132,7 +133,7 @@ xi-stops-requires t c κs = tt
 
 xi-returns-2 : (t : ℕ) → xi-lts.Need-returns-2 (known-xi t) (xi-at t) xi.Post
 xi-returns-2 t c = let s = c .before .before .before in let levels : suc ((s .args .left - 1) / 3) ≡ s .args .left / 3 = omega (arith, xi-levels t s (c .before .before .if1 .left)) in
-    walk-stops ((s .args .left - 1) / 3) (xi-cell t s) (notesOf (s .args .n)) (sym (c .before .stops .ensures (s .args .a) (s .args .b) (s .args .c)) ∙ c .if2 .taken) ∙ ap (λ (m : ℕ). walk m (xi-cell t s) (notesOf (s .args .n))) levels
+    walk-by ((s .args .left - 1) / 3) (xi-cell t s) (notesOf (s .args .n)) true (sym (c .before .stops .ensures (s .args .a) (s .args .b) (s .args .c)) ∙ c .if2 .taken) ∙ ap (λ (m : ℕ). walk m (xi-cell t s) (notesOf (s .args .n))) levels
 
 xi-cut-requires : (t : ℕ) → xi-lts.Need-cut-requires (known-xi t) (xi-at t) xi.Post
 xi-cut-requires t c κs = let s = c .before .before .before .before .before in (first-cut largest (values (now (s .args .g))) ((s .args .left - 1) / 3) (xi-room t s (c .before .before .before .before .if1 .left) .small), omega arith, refl, refl)
@@ -153,7 +154,7 @@ xi-eta-requires t c κs = let s = c .before .before .before .before .before .bef
 xi-returns-3 : (t : ℕ) → xi-lts.Need-returns-3 (known-xi t) (xi-at t) xi.Post
 xi-returns-3 t c = let s = c .before .before .before .before .before .before .before .before .before in let levels : suc ((s .args .left - 1) / 3) ≡ s .args .left / 3 = omega (arith, xi-levels t s (c .before .before .before .before .before .before .before .before .if1 .left)) in
     c .eta .ensures (values (now (s .args .g))) (record { lower-is = c .before .before .before .cut .ensures .0; upper-is = c .before .before .before .cut .ensures .1 })
-    ∙ walk-goes ((s .args .left - 1) / 3) (xi-cell t s) (notesOf (s .args .n)) (sym (c .before .before .before .before .before .before .before .stops .ensures (s .args .a) (s .args .b) (s .args .c)) ∙ c .before .before .before .before .before .before .if2 .left) ∙ ap (λ (m : ℕ). walk m (xi-cell t s) (notesOf (s .args .n))) levels
+    ∙ walk-by ((s .args .left - 1) / 3) (xi-cell t s) (notesOf (s .args .n)) false (sym (c .before .before .before .before .before .before .before .stops .ensures (s .args .a) (s .args .b) (s .args .c)) ∙ c .before .before .before .before .before .before .if2 .left) ∙ ap (λ (m : ℕ). walk m (xi-cell t s) (notesOf (s .args .n))) levels
 
 -- ---- ζ
 module _ (t : ℕ) (s : zeta-lts.Start (known-zeta t) (zeta-at t) zeta.Post) where

@@ -1,5 +1,5 @@
 -- `audit_volumes::determinant` meets its contract: it fits two words, so nothing is lost on the way. Assumes nothing.
-use mathlib.Core.Path.{_≡_, _∙_}
+use mathlib.Core.Path.{_∙_}
 use mathlib.Core.List.{List, [], _∷_, _++_}
 use Prim.Native.Nat.{ℕ}
 use native.Mathlib.Omega.{arith}

@@ -1,6 +1,5 @@
 -- `mesh_report::enter` meets its contract: the kind is that of the record's word 0. Assumes nothing.
 use mathlib.Core.Path.{_≡_, ap, _∙_}
-use mathlib.Core.List.{List}
 use native.Mathlib.Omega.{arith}
 use lib.ListN.{getD, length}
 use lib.IntN.{ℤ, pos, negsuc}

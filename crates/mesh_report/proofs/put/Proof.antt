@@ -15,10 +15,10 @@ use Rattle.mesh_report.proofs.put.Statement.{statement}
 use Rattle.mesh_report.proofs.put.Tie as tie
 
 abbrev Inv-loop : tie.InvT-loop
-Inv-loop report₀ e words at k₀ report k = (k ≤ recordWords) × (report ≡ paste report₀ at words k) × (length report ≡ length report₀) × (length words ≡ recordWords)
+Inv-loop e report₀ words at k₀ report k = (k ≤ recordWords) × (report ≡ paste report₀ at words k) × (length report ≡ length report₀) × (length words ≡ recordWords)
 
 abbrev μ-loop : tie.MeasureT-loop
-μ-loop report₀ e words at k₀ report k = recordWords - k
+μ-loop e report₀ words at k₀ report k = recordWords - k
 
 returns : tie.Need-returns Inv-loop μ-loop
 returns c =
@@ -26,14 +26,14 @@ returns c =
     let at = recordWords * s .args .e in
     let h : c .before .loop .k ≡ recordWords = omega arith in
     c .before .loop .inv .1
-    ∙ ap (λ (k : ℕ). paste (s .args .report .now) at (s .args .t3) k) h
-    ∙ ap (λ (w : List ℤ). take at (s .args .report .now) ++ w ++ drop (at + recordWords) (s .args .report .now)) (take-all recordWords (s .args .t3) (omega arith))
+    ∙ ap (λ (k : ℕ). paste (s .args .report .now) at (s .args .t1) k) h
+    ∙ ap (λ (w : List ℤ). take at (s .args .report .now) ++ w ++ drop (at + recordWords) (s .args .report .now)) (take-all recordWords (s .args .t1) (omega arith))
 
 mul-at : tie.Need-mul-at Inv-loop μ-loop
 mul-at c = search needs
 
 loop-holds : tie.Need-loop-holds Inv-loop μ-loop
-loop-holds c = (omega arith, paste-zero (c .args .report .now) (recordWords * c .args .e) (c .args .t3), refl, search needs)
+loop-holds c = (omega arith, paste-zero (c .args .report .now) (recordWords * c .args .e) (c .args .t1), refl, search needs)
 
 mul-x : tie.Need-mul-x Inv-loop μ-loop
 mul-x c = search needs
@@ -61,14 +61,14 @@ loop-again c =
     let s = c .before .before .before in
     let k = c .before .before .loop .k in
     let at = recordWords * s .args .e in
-    let v = getD (s .args .t3) k (pos 0) in
+    let v = getD (s .args .t1) k (pos 0) in
     let far : at + k < length (s .args .report .now) = omega arith in
-    let near : k < length (s .args .t3) = omega arith in (
+    let near : k < length (s .args .t1) = omega arith in (
       omega arith,
       ap (λ (z : ℤ). set (c .before .before .loop .report) (at + k) z) (toZ-ofZ w64 v (record { sfits = c .x .given }))
           ∙ ap (λ (l : List ℤ). set l (at + k) v) (c .before .before .loop .inv .1)
-          ∙ paste-suc (s .args .report .now) at (s .args .t3) k (pos 0) far near
-          ∙ ap (λ (n : ℕ). paste (s .args .report .now) at (s .args .t3) n) (sym (add-one k)),
+          ∙ paste-suc (s .args .report .now) at (s .args .t1) k (pos 0) far near
+          ∙ ap (λ (n : ℕ). paste (s .args .report .now) at (s .args .t1) n) (sym (add-one k)),
       simp length-set (c .before .before .loop .inv .2),
       c .before .before .loop .inv .3,
     )
