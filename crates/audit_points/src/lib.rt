@@ -15,13 +15,10 @@ ghost use Rattle.wide_array.specs.Word.{largest};
 ghost use Rattle.audit_notes.specs.Meaning.{extremesOf};
 use audit_notes::Extremes;
 use audit_notes::Notes;
+use limits::GREATEST_HIGH;
+use limits::GREATEST_LOW;
 use limits::RECORD_WORDS;
 use wide_number::Wide;
-
-// The words of the greatest number of two words.
-const GREATEST_LOW: u64 = 18446744073709551615;
-
-const GREATEST_HIGH: u64 = 9223372036854775807;
 
 // The record of the eight points with these coefficients: a walk of level 0, 1, .. while only low coefficients are found.
 fn search(g: &[u64; 54], depth: u32) -> [i64; RECORD_WORDS]

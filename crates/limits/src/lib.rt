@@ -49,3 +49,8 @@ pub const SLIP_BYTES: usize = 262144;
 
 // The version of what a caller sees.
 pub const VERSION: u32 = 2;
+
+// The words of the greatest number of two words.
+pub const GREATEST_LOW: u64 = 18446744073709551615;
+
+pub const GREATEST_HIGH: u64 = 9223372036854775807;

@@ -14,12 +14,9 @@ ghost use Rattle.wide_number.specs.Meaning.{valueOf};
 ghost use Rattle.wide_array.specs.Values.{values};
 ghost use Rattle.wide_array.specs.Word.{largest};
 ghost use Rattle.wide_bounds.specs.Meaning.{extremesOf};
+use limits::GREATEST_HIGH;
+use limits::GREATEST_LOW;
 use wide_number::Wide;
-
-// The words of the greatest number of two words.
-const GREATEST_LOW: u64 = 18446744073709551615;
-
-const GREATEST_HIGH: u64 = 9223372036854775807;
 
 // The least coefficient and the least corner of the cells seen so far.
 pub struct Extremes {
