@@ -4,9 +4,9 @@
 //   bounds_twice   both bounds of eight points, from each
 ghost use Rattle.std.specs.Prelude.{◌≡◌, length};
 ghost use Rattle.definitions.specs.Limits.{base};
-ghost use Rattle.definitions.specs.Mesh.{inspection, reportAfter, bounds_of};
-ghost use Rattle.inspection_answers.specs.Meaning.{inspectionHeld, boundsHeld};
-ghost use Rattle.inspection_answers.specs.Back.{boundsBack};
+ghost use Rattle.definitions.specs.Mesh.{inspection, report_after, bounds_of};
+ghost use Rattle.inspection_answers.specs.Meaning.{inspection_held, bounds_held};
+ghost use Rattle.inspection_answers.specs.Back.{bounds_back};
 
 use inspection_answers::{Bounds, Inspection};
 
@@ -33,8 +33,8 @@ pub fn inspect_twice(
     audited: &mut [i64],
 ) -> Inspections
     ensures first_value { report.old ≡ audited.old → (result.first ≡ result.second) × (report.new ≡ audited.new) }
-    ensures first_value_2 { (inspectionHeld result.first ≡ inspection base coordinates.now indices.now (length report.old) depth) × (report.new ≡ reportAfter base coordinates.now indices.now report.old depth) }
-    ensures second_value { (inspectionHeld result.second ≡ inspection base coordinates.now indices.now (length audited.old) depth) × (audited.new ≡ reportAfter base coordinates.now indices.now audited.old depth) }
+    ensures first_value_2 { (inspection_held result.first ≡ inspection base coordinates.now indices.now (length report.old) depth) × (report.new ≡ report_after base coordinates.now indices.now report.old depth) }
+    ensures second_value { (inspection_held result.second ≡ inspection base coordinates.now indices.now (length audited.old) depth) × (audited.new ≡ report_after base coordinates.now indices.now audited.old depth) }
 {
     let first = inspector::inspect(coordinates, indices, depth, report);
     let second = auditor::inspect(coordinates, indices, depth, audited);
@@ -46,7 +46,7 @@ pub fn inspect_twice(
 
 // The same bounds again. The contract says that what they stand for determines them, word by word.
 fn bounds_again(b: Bounds) -> Bounds
-    ensures { (result ≡ boundsBack (boundsHeld b)) × (result ≡ b) }
+    ensures { (result ≡ bounds_back (bounds_held b)) × (result ≡ b) }
 {
     match b {
         Bounds::Both(low, high) => Bounds::Both(low, high),
@@ -57,7 +57,7 @@ fn bounds_again(b: Bounds) -> Bounds
 
 // The low and the high bound of eight points, twice: the same, in every word.
 pub fn bounds_twice(p: [i32; 24], depth: u32) -> BothBounds
-    ensures { (result.first ≡ result.second) × (boundsHeld result.first ≡ bounds_of base p depth) }
+    ensures { (result.first ≡ result.second) × (bounds_held result.first ≡ bounds_of base p depth) }
 {
     let first = inspector::bounds_of(p, depth);
     let second = auditor::bounds_of(p, depth);

@@ -9,7 +9,7 @@ ghost use Rattle.wide_number.specs.Meaning.{value_of, modulo};
 ghost use Rattle.wide_array.specs.Values.{values};
 ghost use Rattle.coefficient_table.specs.Table.{IsTable};
 ghost use Rattle.element_vectors.specs.Range.{InRange};
-ghost use Rattle.audit_coefficients.specs.Rows.{rowAgainst};
+ghost use Rattle.audit_coefficients.specs.Rows.{row_against};
 
 use wide_number::Wide;
 
@@ -29,7 +29,7 @@ fn with_entry(entry: i64, volume: Wide, sum: Wide) -> Wide
 fn row(table: &[i64; 540], n: usize, v: &[u64; 54]) -> Wide
     requires fact_1 { IsTable table.now }
     requires fact_2 { n < 27 }
-    ensures { value_of result ≡ modulo (rowAgainst v.now n) }
+    ensures { value_of result ≡ modulo (row_against v.now n) }
 {
     let mut sum = Wide::from_i64(0);
     let mut k = 20;
@@ -45,7 +45,7 @@ fn row(table: &[i64; 540], n: usize, v: &[u64; 54]) -> Wide
 fn put_rows(table: &[i64; 540], v: &[u64; 54], out: &mut [u64; 54])
     requires fact_1 { IsTable table.now }
     requires fact_2 { length out.old ≡ 54 }
-    ensures fact_1 { values out.new ≡ tabulate (λ n. modulo (rowAgainst v.now n)) 0 27 }
+    ensures fact_1 { values out.new ≡ tabulate (λ n. modulo (row_against v.now n)) 0 27 }
     ensures fact_2 { length out.new ≡ 54 }
 {
     let mut n = 0;

@@ -4,7 +4,7 @@ ghost use Rattle.std.specs.Prelude.{◌≡◌, ◌+◌, ◌*◌, ◌<◌, length
 ghost use Rattle.definitions.specs.Coefficients.{numbers as numbersByPlace};
 ghost use Rattle.definitions.specs.Subdivision.{halve};
 ghost use Rattle.expansion_theory.specs.Control.{Cuttable};
-ghost use Rattle.expansion_theory.specs.Rows.{Row, inLine};
+ghost use Rattle.expansion_theory.specs.Rows.{Row, in_line};
 ghost use Rattle.wide_array.specs.Values.{values};
 ghost use Rattle.wide_array.specs.Word.{largest};
 ghost use Rattle.audit_cut.specs.Rows.{BothHeld};
@@ -25,7 +25,7 @@ fn numbers() -> [usize; 27]
 // The number, less 1, of the coefficient at t in row j of direction d.
 fn number_at(numbers: &[usize; 27], d: u32, j: usize, t: usize) -> usize
     requires { (numbers.now ≡ numbersByPlace) × (d < 3) × (j < 9) × (t < 3) }
-    ensures { result ≡ inLine d (3 * j + t) }
+    ensures { result ≡ in_line d (3 * j + t) }
 {
     let u = j / 3;
     let v = j % 3;

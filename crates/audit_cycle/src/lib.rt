@@ -8,15 +8,15 @@ ghost use Rattle.audit_theory.specs.Walk.{opened, walk, through};
 ghost use Rattle.audit_theory.specs.Cuts.{Halves, Quarters, InHalves, InQuarters};
 ghost use Rattle.wide_array.specs.Values.{values};
 ghost use Rattle.wide_array.specs.Word.{largest};
-ghost use Rattle.audit_notes.specs.Meaning.{notesOf};
+ghost use Rattle.audit_notes.specs.Meaning.{notes_of};
 
 use audit_notes::Notes;
 
 // A cell with `left` cuts left, a third of them for each direction: of the last level it is noted, else it is cut across ξ.
 #[cycle(eta_xi_zeta)]
 pub fn xi(g: &[u64; 54], a: u32, b: u32, c: u32, left: u32, n: Notes) -> Notes
-    requires { Room largest (values g.now) a b c (left / 3) × (left % 3 ≡ 0) × (opened (notesOf n) + 8 ^ (left / 3) < 2 ^ 32) }
-    ensures { notesOf result ≡ walk (left / 3) (cell_of a b c (values g.now)) (notesOf n) }
+    requires { Room largest (values g.now) a b c (left / 3) × (left % 3 ≡ 0) × (opened (notes_of n) + 8 ^ (left / 3) < 2 ^ 32) }
+    ensures { notes_of result ≡ walk (left / 3) (cell_of a b c (values g.now)) (notes_of n) }
 {
     if left == 0 {
         return audit_notes::noted(g, a, b, c, n);
@@ -33,8 +33,8 @@ pub fn xi(g: &[u64; 54], a: u32, b: u32, c: u32, left: u32, n: Notes) -> Notes
 // Both halves of the cell, each cut across η.
 #[cycle(eta_xi_zeta)]
 fn eta(lower: &[u64; 54], upper: &[u64; 54], a: u32, b: u32, c: u32, left: u32, n: Notes) -> Notes
-    requires { InHalves largest (values lower.now) (values upper.now) a b c (left / 3) × (left % 3 ≡ 2) × (opened (notesOf n) + 8 ^ (left / 3 + 1) < 2 ^ 32) }
-    ensures { (g : List ℤ) → Halves g (values lower.now) (values upper.now) → notesOf result ≡ through (walk (left / 3)) (children (cell_of a b c g)) (notesOf n) }
+    requires { InHalves largest (values lower.now) (values upper.now) a b c (left / 3) × (left % 3 ≡ 2) × (opened (notes_of n) + 8 ^ (left / 3 + 1) < 2 ^ 32) }
+    ensures { (g : List ℤ) → Halves g (values lower.now) (values upper.now) → notes_of result ≡ through (walk (left / 3)) (children (cell_of a b c g)) (notes_of n) }
 {
     let mut q1 = [0u64; 54];
     let mut q2 = [0u64; 54];
@@ -58,8 +58,8 @@ fn zeta(
     left: u32,
     n: Notes,
 ) -> Notes
-    requires { InQuarters largest (values q1.now) (values q2.now) (values q3.now) (values q4.now) a b c (left / 3) × (left % 3 ≡ 1) × (opened (notesOf n) + 8 ^ (left / 3 + 1) < 2 ^ 32) }
-    ensures { (g : List ℤ) → Quarters g (values q1.now) (values q2.now) (values q3.now) (values q4.now) → notesOf result ≡ through (walk (left / 3)) (children (cell_of a b c g)) (notesOf n) }
+    requires { InQuarters largest (values q1.now) (values q2.now) (values q3.now) (values q4.now) a b c (left / 3) × (left % 3 ≡ 1) × (opened (notes_of n) + 8 ^ (left / 3 + 1) < 2 ^ 32) }
+    ensures { (g : List ℤ) → Quarters g (values q1.now) (values q2.now) (values q3.now) (values q4.now) → notes_of result ≡ through (walk (left / 3)) (children (cell_of a b c g)) (notes_of n) }
 {
     let mut k1 = [0u64; 54];
     let mut k2 = [0u64; 54];

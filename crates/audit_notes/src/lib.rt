@@ -1,14 +1,14 @@
 // What the auditor's walk notes of an element's cells, with numbers of two words: a search what it found and how many cells it opened, a survey the
 // least coefficient and the least corner. An inner crate, for `audit_cycle` and `audit_points`, which meet what each `requires` asks.
 ghost use Rattle.std.specs.Prelude.{◌≡◌, ℕ, ◌+◌, ◌-◌, ◌^◌, ◌<◌, ◌≤◌, take, pos};
-ghost use Rattle.foundation.specs.Least.{lesser as lesserOf, leastFrom};
+ghost use Rattle.foundation.specs.Least.{lesser as lesserOf, least_from};
 ghost use Rattle.definitions.specs.Record.{words as words_of};
-ghost use Rattle.verdict_theory.specs.Search.{nothing, coefficient, openCell};
+ghost use Rattle.verdict_theory.specs.Search.{nothing, coefficient, open_cell};
 ghost use Rattle.search_theory.specs.Meaning.{cell_of, lowest, Grid};
 ghost use Rattle.audit_theory.specs.Walk.{sought, opened, stops as stopsAt, noted as notedAt};
 ghost use Rattle.wide_number.specs.Meaning.{value_of};
 ghost use Rattle.wide_array.specs.Values.{values};
-ghost use Rattle.audit_notes.specs.Meaning.{chosen, findingOf, notesOf, extremesOf, findingAt, blockedIn, recordIn, extremesIn};
+ghost use Rattle.audit_notes.specs.Meaning.{chosen, finding_of, notes_of, extremes_of, finding_at, blocked_in, record_in, extremes_in};
 
 use limits::RECORD_WORDS;
 use wide_number::Wide;
@@ -77,7 +77,7 @@ fn lesser(x: Wide, y: Wide) -> Wide
 // The least of v and the first m coefficients.
 fn least_with(g: &[u64; 54], m: usize, v: Wide) -> Wide
     requires { m ≤ 27 }
-    ensures { value_of result ≡ leastFrom (value_of v) (take m (values g.now)) }
+    ensures { value_of result ≡ least_from (value_of v) (take m (values g.now)) }
 {
     let mut r = v;
     for k in 0..m {
@@ -90,7 +90,7 @@ fn least_with(g: &[u64; 54], m: usize, v: Wide) -> Wide
 // The coefficient of number k of a cell: a corner at its point, any other at the cell.
 fn found_at(g: &[u64; 54], a: u32, b: u32, c: u32, k: usize) -> Finding
     requires { Grid a 0 × Grid b 0 × Grid c 0 × (0 < k) × (k ≤ 27) }
-    ensures { findingOf result ≡ findingAt (cell_of a b c (values g.now)) (k - 1) }
+    ensures { finding_of result ≡ finding_at (cell_of a b c (values g.now)) (k - 1) }
 {
     let j = k as u32 - 1;
     let value = wide_array::at(g, k - 1);
@@ -115,7 +115,7 @@ fn found_at(g: &[u64; 54], a: u32, b: u32, c: u32, k: usize) -> Finding
 // A cell of the last level, opened where nothing low was found before.
 fn first_look(g: &[u64; 54], a: u32, b: u32, c: u32, opened: u32) -> Notes
     requires { Grid a 0 × Grid b 0 × Grid c 0 × (opened + 1 < 2 ^ 32) }
-    ensures { notesOf result ≡ sought (openCell (cell_of a b c (values g.now)) (record { count = opened; found = nothing })) }
+    ensures { notes_of result ≡ sought (open_cell (cell_of a b c (values g.now)) (record { count = opened; found = nothing })) }
 {
     let k = lowest_number(g);
     if k == 0 {
@@ -131,7 +131,7 @@ fn first_look(g: &[u64; 54], a: u32, b: u32, c: u32, opened: u32) -> Notes
 // A cell of the last level, opened after a low coefficient, which stays unless a corner is low.
 fn later_look(g: &[u64; 54], a: u32, b: u32, c: u32, opened: u32, before: Finding) -> Notes
     requires { Grid a 0 × Grid b 0 × Grid c 0 × (opened + 1 < 2 ^ 32) }
-    ensures { notesOf result ≡ sought (openCell (cell_of a b c (values g.now)) (record { count = opened; found = coefficient (findingOf before) })) }
+    ensures { notes_of result ≡ sought (open_cell (cell_of a b c (values g.now)) (record { count = opened; found = coefficient (finding_of before) })) }
 {
     let k = lowest_number(g);
     if k == 0 {
@@ -145,8 +145,8 @@ fn later_look(g: &[u64; 54], a: u32, b: u32, c: u32, opened: u32, before: Findin
 
 // A cell of the last level.
 pub fn noted(g: &[u64; 54], a: u32, b: u32, c: u32, n: Notes) -> Notes
-    requires { Grid a 0 × Grid b 0 × Grid c 0 × (opened (notesOf n) + 1 < 2 ^ 32) }
-    ensures { notesOf result ≡ notedAt (cell_of a b c (values g.now)) (notesOf n) }
+    requires { Grid a 0 × Grid b 0 × Grid c 0 × (opened (notes_of n) + 1 < 2 ^ 32) }
+    ensures { notes_of result ≡ notedAt (cell_of a b c (values g.now)) (notes_of n) }
 {
     match n {
         Notes::Nothing(opened) => first_look(g, a, b, c, opened),
@@ -160,7 +160,7 @@ pub fn noted(g: &[u64; 54], a: u32, b: u32, c: u32, n: Notes) -> Notes
 
 // Whether a cell is not cut: a search has found a low corner, or the cell has no low coefficient. A survey cuts every cell.
 pub fn stops(g: &[u64; 54], n: Notes) -> bool
-    ensures { (a b c : ℕ) → result ≡ stopsAt (cell_of a b c (values g.now)) (notesOf n) }
+    ensures { (a b c : ℕ) → result ≡ stopsAt (cell_of a b c (values g.now)) (notes_of n) }
 {
     match n {
         Notes::Nothing(opened) => lowest_number(g) == 0,
@@ -172,7 +172,7 @@ pub fn stops(g: &[u64; 54], n: Notes) -> bool
 
 // Whether a search found a low coefficient and no low corner.
 pub fn blocked(n: Notes) -> bool
-    ensures { result ≡ blockedIn (notesOf n) }
+    ensures { result ≡ blocked_in (notes_of n) }
 {
     match n {
         Notes::Nothing(opened) => false,
@@ -184,7 +184,7 @@ pub fn blocked(n: Notes) -> bool
 
 // How many cells a search opened; of a survey 0.
 pub fn count(n: Notes) -> u32
-    ensures { result ≡ opened (notesOf n) }
+    ensures { result ≡ opened (notes_of n) }
 {
     match n {
         Notes::Nothing(opened) => opened,
@@ -216,7 +216,7 @@ fn words(kind: u32, level: u32, f: Finding, opened: u32) -> [i64; RECORD_WORDS]
 
 // The record of a search of a level, where it is the last; of a survey nine zeros.
 pub fn record(level: u32, n: Notes) -> [i64; RECORD_WORDS]
-    ensures { result ≡ recordIn level (notesOf n) }
+    ensures { result ≡ record_in level (notes_of n) }
 {
     match n {
         Notes::Nothing(opened) => [0, level as i64, 0, 0, 0, 0, 0, 0, opened as i64],
@@ -228,7 +228,7 @@ pub fn record(level: u32, n: Notes) -> [i64; RECORD_WORDS]
 
 // Zeros, where there is no survey.
 fn no_extremes() -> Extremes
-    ensures { extremesOf result ≡ record { low = pos 0; high = pos 0 } }
+    ensures { extremes_of result ≡ record { low = pos 0; high = pos 0 } }
 {
     Extremes {
         low: Wide::from_i64(0),
@@ -238,7 +238,7 @@ fn no_extremes() -> Extremes
 
 // What a survey comes to; of a search zeros.
 pub fn surveyed(n: Notes) -> Extremes
-    ensures { extremesOf result ≡ extremesIn (notesOf n) }
+    ensures { extremes_of result ≡ extremes_in (notes_of n) }
 {
     match n {
         Notes::Nothing(opened) => no_extremes(),

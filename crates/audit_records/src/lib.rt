@@ -1,9 +1,9 @@
 // The auditor's records of a mesh's elements, one after the other into the report space, and how many there are of each kind. An inner crate: `auditor`
 // meets what each `requires` asks. It shares with the first inspector which elements are refused, the report space and the counts.
 ghost use Rattle.std.specs.Prelude.{◌≡◌, ◌*◌, ◌/◌, ◌%◌, ◌≤◌, length};
-ghost use Rattle.definitions.specs.Limits.{base, recordWords};
-ghost use Rattle.definitions.specs.Mesh.{elementRecord, records, report as reportOf, countsOf};
-ghost use Rattle.inspection_counts.specs.Meaning.{countsHeld};
+ghost use Rattle.definitions.specs.Limits.{base, record_words};
+ghost use Rattle.definitions.specs.Mesh.{element_record, records, report as reportOf, counts_of};
+ghost use Rattle.inspection_counts.specs.Meaning.{counts_held};
 
 use inspection_counts::Counts;
 use limits::RECORD_WORDS;
@@ -12,7 +12,7 @@ use mesh_elements::Element;
 // The record of the element whose eight indices are lent.
 fn element(coordinates: &[i32], ix: &[u32], depth: u32) -> [i64; RECORD_WORDS]
     requires { (length ix.now ≡ 8) × (depth ≤ base.depth) }
-    ensures { result ≡ elementRecord base coordinates.now ix.now depth }
+    ensures { result ≡ element_record base coordinates.now ix.now depth }
 {
     let mut p = [0i32; 24];
     let fault = mesh_elements::fault(coordinates, ix, &mut p);
@@ -26,9 +26,9 @@ fn element(coordinates: &[i32], ix: &[u32], depth: u32) -> [i64; RECORD_WORDS]
 
 // The records of all elements into the report space, element by element, and how many there are of each kind.
 pub fn write_records(coordinates: &[i32], indices: &[u32], depth: u32, report: &mut [i64]) -> Counts
-    requires indices_len { (length indices.now % 8 ≡ 0) × (length indices.now / 8 ≤ base.elements) × (length report.old ≡ recordWords * (length indices.now / 8)) }
+    requires indices_len { (length indices.now % 8 ≡ 0) × (length indices.now / 8 ≤ base.elements) × (length report.old ≡ record_words * (length indices.now / 8)) }
     requires depth_le_depth { depth ≤ base.depth }
-    ensures result_value { countsHeld result ≡ countsOf (records base coordinates.now indices.now depth) }
+    ensures result_value { counts_held result ≡ counts_of (records base coordinates.now indices.now depth) }
     ensures report_after { report.new ≡ reportOf base coordinates.now indices.now depth }
 {
     let mut counts = Counts {

@@ -9,61 +9,61 @@ use Rattle.foundation.specs.Polynomial.{integers}
 use Rattle.foundation.specs.Words.{args}
 use Rattle.definitions.specs.Jacobian.{side}
 use Rattle.definitions.specs.Coefficients.{numbered, at}
-use Rattle.definitions.specs.Subdivision.{rows, cutRow, halve, Cell, child, children}
+use Rattle.definitions.specs.Subdivision.{rows, cut_row, halve, Cell, child, children}
 use Rattle.expansion_theory.specs.Control.{Cuttable}
-use Rattle.verdict_theory.specs.Clear.{childControl}
+use Rattle.verdict_theory.specs.Clear.{child_control}
 use Rattle.search_theory.specs.Meaning.{cell_of, Small, Room}
-use Rattle.search_theory.specs.Children.{half-control, small-less, cut-whole, child-room, child-cell}
-use Rattle.audit_theory.specs.Walk.{Notes, through, walk, opened, walk-opened}
+use Rattle.search_theory.specs.Children.{half_control, small_less, cut_whole, child_room, child_cell}
+use Rattle.audit_theory.specs.Walk.{Notes, through, walk, opened, walk_opened}
 
 -- 02, No. 6: "Each single cut is shown to give, in its direction, the two rows of 01's rule, kept four times larger." For any direction and either side, and for
 -- the coefficients of a cell of any level: the nine rows of the half are the nine rows of the cell, each cut.
-pub cut-rows : (d h : ℕ) (c : List ℤ) → rows d (at (halve d h c)) ≡ map (λ (r : List ℤ). tabulate (cutRow integers h (args r)) 0 3) (rows d (at c))
+pub cut_rows : (d h : ℕ) (c : List ℤ) → rows d (at (halve d h c)) ≡ map (λ (r : List ℤ). tabulate (cut_row integers h (args r)) 0 3) (rows d (at c))
 unfolding halve numbered at
-cut-rows zero zero c = refl
-cut-rows zero (suc h) c = refl
-cut-rows (suc zero) zero c = refl
-cut-rows (suc zero) (suc h) c = refl
-cut-rows (suc (suc d)) zero c = refl
-cut-rows (suc (suc d)) (suc h) c = refl
+cut_rows zero zero c = refl
+cut_rows zero (suc h) c = refl
+cut_rows (suc zero) zero c = refl
+cut_rows (suc zero) (suc h) c = refl
+cut_rows (suc (suc d)) zero c = refl
+cut_rows (suc (suc d)) (suc h) c = refl
 
 -- ---- a cell that is cut has room for three cuts
 module _ (top : ℕ) (g : List ℤ) (m : ℕ) (w : Small top g (m + 1)) where
-  one-level : Small top g 1
-  one-level = small-less top g 1 (m + 1) (omega arith) w
+  one_level : Small top g 1
+  one_level = small_less top g 1 (m + 1) (omega arith) w
 
-  pub first-cut : Cuttable top g
-  first-cut = cut-whole top g one-level
+  pub first_cut : Cuttable top g
+  first_cut = cut_whole top g one_level
 
-  pub second-cut : (d h : ℕ) → Cuttable top (halve d h g)
-  second-cut d h = record { bound = 4 * one-level.bound; control = half-control one-level.bound d h g one-level.control; room = omega (arith, one-level.small) }
+  pub second_cut : (d h : ℕ) → Cuttable top (halve d h g)
+  second_cut d h = record { bound = 4 * one_level.bound; control = half_control one_level.bound d h g one_level.control; room = omega (arith, one_level.small) }
 
-  pub third-cut : (d h e i : ℕ) → Cuttable top (halve e i (halve d h g))
-  third-cut d h e i = record {
-    bound = 4 * (4 * one-level.bound);
-    control = half-control (4 * one-level.bound) e i (halve d h g) (half-control one-level.bound d h g one-level.control);
-    room = omega (arith, one-level.small);
+  pub third_cut : (d h e i : ℕ) → Cuttable top (halve e i (halve d h g))
+  third_cut d h e i = record {
+    bound = 4 * (4 * one_level.bound);
+    control = half_control (4 * one_level.bound) e i (halve d h g) (half_control one_level.bound d h g one_level.control);
+    room = omega (arith, one_level.small);
   }
 
 -- ---- halves and quarters
 -- both halves across ξ
 pub record Halves (g lower upper : List ℤ) : Type 0 where
-  pub lower-is : lower ≡ halve 0 0 g
+  pub lower_is : lower ≡ halve 0 0 g
   pub upper_is : upper ≡ halve 0 1 g
 
 -- the four quarters across ξ and η, in the order of the corners that they touch
 pub record Quarters (g q1 q2 q3 q4 : List ℤ) : Type 0 where
-  pub first-is : q1 ≡ halve 1 0 (halve 0 0 g)
+  pub first_is : q1 ≡ halve 1 0 (halve 0 0 g)
   pub second_is : q2 ≡ halve 1 0 (halve 0 1 g)
-  pub third-is : q3 ≡ halve 1 1 (halve 0 1 g)
-  pub fourth-is : q4 ≡ halve 1 1 (halve 0 0 g)
+  pub third_is : q3 ≡ halve 1 1 (halve 0 1 g)
+  pub fourth_is : q4 ≡ halve 1 1 (halve 0 0 g)
 
-pub quarters-of : {g lower upper : List ℤ} → Halves g lower upper → {q1 q2 q3 q4 : List ℤ} → q1 ≡ halve 1 0 lower → q4 ≡ halve 1 1 lower → q2 ≡ halve 1 0 upper → q3 ≡ halve 1 1 upper → Quarters g q1 q2 q3 q4
-quarters-of h p1 p4 p2 p3 = record {
-  first-is = p1 ∙ ap (halve 1 0) h.lower-is;
+pub quarters_of : {g lower upper : List ℤ} → Halves g lower upper → {q1 q2 q3 q4 : List ℤ} → q1 ≡ halve 1 0 lower → q4 ≡ halve 1 1 lower → q2 ≡ halve 1 0 upper → q3 ≡ halve 1 1 upper → Quarters g q1 q2 q3 q4
+quarters_of h p1 p4 p2 p3 = record {
+  first_is = p1 ∙ ap (halve 1 0) h.lower_is;
   second_is = p2 ∙ ap (halve 1 0) h.upper_is;
-  third-is = p3 ∙ ap (halve 1 1) h.upper_is;
-  fourth-is = p4 ∙ ap (halve 1 1) h.lower-is;
+  third_is = p3 ∙ ap (halve 1 1) h.upper_is;
+  fourth_is = p4 ∙ ap (halve 1 1) h.lower_is;
 }
 
 -- a cell with m + 1 levels below it, by its halves, and by its quarters
@@ -78,14 +78,14 @@ pub record InQuarters (top : ℕ) (q1 q2 q3 q4 : List ℤ) (a b c m : ℕ) : Typ
   pub quarters : Quarters control q1 q2 q3 q4
 
 -- ---- the children
-module _ (top : ℕ) (g : List ℤ) (a b c k : ℕ) {x y z : ℕ} (p : x ≡ 2 * a + side 0 k) (q : y ≡ 2 * b + side 1 k) (r : z ≡ 2 * c + side 2 k) {xs : List ℤ} (e : xs ≡ childControl g k) where
-  pub made-room : (m : ℕ) → Room top g a b c (m + 1) → Room top xs x y z m
-  made-room m room = let l : m + 1 - 1 ≡ m = omega arith in
+module _ (top : ℕ) (g : List ℤ) (a b c k : ℕ) {x y z : ℕ} (p : x ≡ 2 * a + side 0 k) (q : y ≡ 2 * b + side 1 k) (r : z ≡ 2 * c + side 2 k) {xs : List ℤ} (e : xs ≡ child_control g k) where
+  pub made_room : (m : ℕ) → Room top g a b c (m + 1) → Room top xs x y z m
+  made_room m room = let l : m + 1 - 1 ≡ m = omega arith in
       subst (λ (t : ℕ × ℕ × ℕ × ℕ). Room top xs t.0 t.1 t.2 t.3) (λ i. (sym p i, sym q i, sym r i, l i))
-      (child-room top g a b c k (side 0 k) (side 1 k) (side 2 k) xs e refl refl refl (m + 1) room (λ n. absurd (omega (arith, n))))
+      (child_room top g a b c k (side 0 k) (side 1 k) (side 2 k) xs e refl refl refl (m + 1) room (λ n. absurd (omega (arith, n))))
 
-  pub made-cell : cell_of x y z xs ≡ child (cell_of a b c g) k
-  made-cell = (λ i. cell_of (p i) (q i) (r i) xs) ∙ child-cell top g a b c k (side 0 k) (side 1 k) (side 2 k) xs e refl refl refl
+  pub made_cell : cell_of x y z xs ≡ child (cell_of a b c g) k
+  made_cell = (λ i. cell_of (p i) (q i) (r i) xs) ∙ child_cell top g a b c k (side 0 k) (side 1 k) (side 2 k) xs e refl refl refl
 
 -- the first k children of s gone through, m levels below each
 module _ (s : Cell) (m : ℕ) (n : Notes) where
@@ -93,33 +93,33 @@ module _ (s : Cell) (m : ℕ) (n : Notes) where
   over zero = n
   over (suc k) = walk m (child s k) (over k)
 
-  pub over-next : (k : ℕ) {now : Notes} → now ≡ over k → {t : Cell} → t ≡ child s k → {next : Notes} → next ≡ walk m t now → next ≡ over (suc k)
-  over-next k h e w = w ∙ (λ i. walk m (e i) (h i))
+  pub over_next : (k : ℕ) {now : Notes} → now ≡ over k → {t : Cell} → t ≡ child s k → {next : Notes} → next ≡ walk m t now → next ≡ over (suc k)
+  over_next k h e w = w ∙ (λ i. walk m (e i) (h i))
 
   -- all eight
-  pub over-all : over 8 ≡ through (walk m) (children s) n
+  pub over_all : over 8 ≡ through (walk m) (children s) n
   unfolding children
-  over-all = refl
+  over_all = refl
 
-  over-opened : (k : ℕ) → opened (over k) ≤ opened n + k * 8 ^ m
-  over-opened zero = omega arith
-  over-opened (suc k) = omega (arith, over-opened k, walk-opened m (child s k) (over k), suc-mul k (8 ^ m))
+  over_opened : (k : ℕ) → opened (over k) ≤ opened n + k * 8 ^ m
+  over_opened zero = omega arith
+  over_opened (suc k) = omega (arith, over_opened k, walk_opened m (child s k) (over k), suc-mul k (8 ^ m))
 
   -- a word of 32 bits that has room for the cells below s has room for those below its next child
-  pub over-room : (k : ℕ) → k < 8 → opened n + 8 ^ (m + 1) < 2 ^ 32 → {now : Notes} → now ≡ over k → opened now + 8 ^ m < 2 ^ 32
-  over-room k l h e = let p : suc k ≤ 8 = omega arith in let q : m + 1 ≡ suc m = omega arith in
-      omega (arith, h, ap opened e, over-opened k, mul-le-mul_right (8 ^ m) p, suc-mul k (8 ^ m), ap (λ (j : ℕ). 8 ^ j) q ∙ pow-succ' 8 m)
+  pub over_room : (k : ℕ) → k < 8 → opened n + 8 ^ (m + 1) < 2 ^ 32 → {now : Notes} → now ≡ over k → opened now + 8 ^ m < 2 ^ 32
+  over_room k l h e = let p : suc k ≤ 8 = omega arith in let q : m + 1 ≡ suc m = omega arith in
+      omega (arith, h, ap opened e, over_opened k, mul-le-mul_right (8 ^ m) p, suc-mul k (8 ^ m), ap (λ (j : ℕ). 8 ^ j) q ∙ pow-succ' 8 m)
 
 -- ---- the cuts left, three for each level
 -- a cell that is not of the last level has one level more than its halves and quarters have whole ones
-pub levels-left : (left : ℕ) → left % 3 ≡ 0 → (left ≡ 0 → ⊥) → left / 3 ≡ (left - 1) / 3 + 1
-levels-left left e h = omega (arith, e, h)
+pub levels_left : (left : ℕ) → left % 3 ≡ 0 → (left ≡ 0 → ⊥) → left / 3 ≡ (left - 1) / 3 + 1
+levels_left left e h = omega (arith, e, h)
 
-pub same-levels : (left : ℕ) → (left % 3 ≡ 0 → ⊥) → left / 3 ≡ (left - 1) / 3
-same-levels left h = omega (arith, h)
+pub same_levels : (left : ℕ) → (left % 3 ≡ 0 → ⊥) → left / 3 ≡ (left - 1) / 3
+same_levels left h = omega (arith, h)
 
-pub last-levels : (left : ℕ) → left ≡ 0 → left / 3 ≡ 0
-last-levels left e = omega (arith, e)
+pub last_levels : (left : ℕ) → left ≡ 0 → left / 3 ≡ 0
+last_levels left e = omega (arith, e)
 
 pub none_more : (n : ℕ) → n ≡ n + 0
 none_more n = omega arith

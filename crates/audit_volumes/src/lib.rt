@@ -5,13 +5,13 @@ ghost use Rattle.std.specs.Prelude.{◌≡◌, [], ◌∷◌, ◌+◌, ◌-◌, 
 ghost use Rattle.foundation.specs.Polynomial.{integers};
 ghost use Rattle.foundation.specs.Words.{Within};
 ghost use Rattle.definitions.specs.Limits.{base};
-ghost use Rattle.definitions.specs.Jacobian.{nodesOf, det};
-ghost use Rattle.definitions.specs.Coefficients.{cornerTetrahedra, edgeTetrahedra, volumes};
+ghost use Rattle.definitions.specs.Jacobian.{nodes_of, det};
+ghost use Rattle.definitions.specs.Coefficients.{corner_tetrahedra, edge_tetrahedra, volumes};
 ghost use Rattle.wide_number.specs.Meaning.{value_of, modulo};
 ghost use Rattle.wide_array.specs.Values.{values};
 ghost use Rattle.element_vectors.specs.Range.{InRange, Node};
 ghost use Rattle.element_vectors.specs.Vectors.{vector};
-ghost use Rattle.audit_volumes.specs.Limits.{edgeLimit, middleLimit};
+ghost use Rattle.audit_volumes.specs.Limits.{edge_limit, middle_limit};
 ghost use Rattle.audit_volumes.specs.Begun.{Begun};
 
 use element_vectors::{edge, middle};
@@ -38,9 +38,9 @@ fn determinant(
     wy: i64,
     wz: i64,
 ) -> Wide
-    requires fact_1 { Within edgeLimit (ux ∷ uy ∷ uz ∷ []) }
-    requires fact_2 { Within middleLimit (vx ∷ vy ∷ vz ∷ []) }
-    requires fact_3 { Within middleLimit (wx ∷ wy ∷ wz ∷ []) }
+    requires fact_1 { Within edge_limit (ux ∷ uy ∷ uz ∷ []) }
+    requires fact_2 { Within middle_limit (vx ∷ vy ∷ vz ∷ []) }
+    requires fact_3 { Within middle_limit (wx ∷ wy ∷ wz ∷ []) }
     ensures { value_of result ≡ det integers (vector ux uy uz) (vector vx vy vz) (vector wx wy wz) }
 {
     let a = Wide::from_i64(vx);
@@ -62,7 +62,7 @@ fn determinant(
 // Volume k of the points, counted from 0, into out: J at corner a, whose neighbours are b, c, d. The volumes before it stand in their places.
 fn at_corner(p: &[i32; 24], k: usize, a: usize, b: usize, c: usize, d: usize, out: &mut [u64; 54])
     requires node_1 { Node a × Node b × Node c × Node d }
-    requires node_2 { (k < 8) × (get_or cornerTetrahedra k [] ≡ a ∷ b ∷ c ∷ d ∷ []) }
+    requires node_2 { (k < 8) × (get_or corner_tetrahedra k [] ≡ a ∷ b ∷ c ∷ d ∷ []) }
     requires begun { Begun p.now k out.old }
     ensures { Begun p.now (k + 1) out.new }
 {
@@ -94,7 +94,7 @@ fn at_edge(
     out: &mut [u64; 54],
 )
     requires node_1 { Node a × Node b × Node c × Node d × Node e × Node f }
-    requires node_2 { (8 ≤ k) × (k < 20) × (get_or edgeTetrahedra (k - 8) [] ≡ a ∷ b ∷ c ∷ d ∷ e ∷ f ∷ []) }
+    requires node_2 { (8 ≤ k) × (k < 20) × (get_or edge_tetrahedra (k - 8) [] ≡ a ∷ b ∷ c ∷ d ∷ e ∷ f ∷ []) }
     requires begun { Begun p.now k out.old }
     ensures { Begun p.now (k + 1) out.new }
 {
@@ -150,7 +150,7 @@ fn put_edges(p: &[i32; 24], out: &mut [u64; 54])
 pub fn volumes(p: &[i32; 24], out: &mut [u64; 54])
     requires fact_1 { InRange base.range p.now }
     requires fact_2 { length out.old ≡ 54 }
-    ensures { take 20 (values out.new) ≡ volumes integers (nodesOf p.now) }
+    ensures { take 20 (values out.new) ≡ volumes integers (nodes_of p.now) }
 {
     put_corners(p, out);
     put_edges(p, out);

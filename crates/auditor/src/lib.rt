@@ -7,8 +7,8 @@
 // the whole list of what it shares with the first.
 ghost use Rattle.std.specs.Prelude.{◌≡◌, length};
 ghost use Rattle.definitions.specs.Limits.{base};
-ghost use Rattle.definitions.specs.Mesh.{inspection, reportAfter, bounds_of};
-ghost use Rattle.inspection_answers.specs.Meaning.{inspectionHeld, boundsHeld};
+ghost use Rattle.definitions.specs.Mesh.{inspection, report_after, bounds_of};
+ghost use Rattle.inspection_answers.specs.Meaning.{inspection_held, bounds_held};
 
 use inspection_answers::{Bounds, Inspection};
 use limits::MAX_DEPTH;
@@ -17,8 +17,8 @@ use mesh_points::First;
 
 // Inspects a mesh: three coordinates a node, eight indices an element, a depth, and report space of nine words an element.
 pub fn inspect(coordinates: &[i32], indices: &[u32], depth: u32, report: &mut [i64]) -> Inspection
-    ensures result_value { inspectionHeld result ≡ inspection base coordinates.now indices.now (length report.old) depth }
-    ensures report_after { report.new ≡ reportAfter base coordinates.now indices.now report.old depth }
+    ensures result_value { inspection_held result ≡ inspection base coordinates.now indices.now (length report.old) depth }
+    ensures report_after { report.new ≡ report_after base coordinates.now indices.now report.old depth }
 {
     let checked = mesh_checks::check(coordinates.len(), indices.len(), report.len(), depth);
     match checked {
@@ -37,7 +37,7 @@ pub fn inspect(coordinates: &[i32], indices: &[u32], depth: u32, report: &mut [i
 
 // The low and the high bound of eight points, x, y, z of each, at a depth.
 pub fn bounds_of(p: [i32; 24], depth: u32) -> Bounds
-    ensures { boundsHeld result ≡ bounds_of base p depth }
+    ensures { bounds_held result ≡ bounds_of base p depth }
 {
     if MAX_DEPTH < depth {
         return Bounds::TooDeep;

@@ -5,24 +5,24 @@
 ghost use Rattle.std.specs.Prelude.{◌≡◌, pos, ◌+ℤ◌, ◌-ℤ◌, ◌*ℤ◌, length, take, drop};
 ghost use Rattle.std.specs.Int.Signed.{le_z};
 ghost use Rattle.definitions.specs.Limits.{base, version};
-ghost use Rattle.definitions.specs.Address.{childAddress, cornerAddress, parentAddress};
-ghost use Rattle.definitions.specs.Mesh.{inspection, reportAfter, bounds_of};
-ghost use Rattle.lot_format.specs.Format.{lotFile};
-ghost use Rattle.lot_format.specs.Reading.{readInto, handedOut};
-ghost use Rattle.foundation.specs.Laid.{laidOver};
+ghost use Rattle.definitions.specs.Address.{child_address, corner_address, parent_address};
+ghost use Rattle.definitions.specs.Mesh.{inspection, report_after, bounds_of};
+ghost use Rattle.lot_format.specs.Format.{lot_file};
+ghost use Rattle.lot_format.specs.Reading.{read_into, handed_out};
+ghost use Rattle.foundation.specs.Laid.{laid_over};
 ghost use Rattle.lot_format.specs.Runs.{groups_of};
-ghost use Rattle.lot_format.specs.Naming.{naming, nameGiven};
-ghost use Rattle.lot_format.specs.Writing.{writing, fileOf};
-ghost use Rattle.slip_format.specs.Slip.{slipLimits, slipOf};
+ghost use Rattle.lot_format.specs.Naming.{naming, name_given};
+ghost use Rattle.lot_format.specs.Writing.{writing, file_of};
+ghost use Rattle.slip_format.specs.Slip.{slip_limits, slip_of};
 ghost use Rattle.lot_writer.specs.Meaning.{runs};
-ghost use Rattle.wide_number.specs.Meaning.{singleOf, order_of};
-ghost use Rattle.brundhal_cell_answers.specs.Meaning.{moveNumbers, moveFields, addressHeld};
-ghost use Rattle.brundhal_number_answers.specs.Meaning.{numberWords, numberFields, singleNumbers, singleFields, orderNumber, answerNumber, numberHeld};
-ghost use Rattle.brundhal_mesh_answers.specs.Meaning.{inspectionNumbers, inspectionFields, stampTold, stampFor};
-ghost use Rattle.brundhal_bounds_answers.specs.Meaning.{boundsNumbers, boundsFields};
-ghost use Rattle.brundhal_lot_answers.specs.Meaning.{lotNumbers, lotFields};
-ghost use Rattle.brundhal_written_answers.specs.Meaning.{writingNumbers, writtenFields};
-ghost use Rattle.brundhal_name_answers.specs.Meaning.{nameNumbers, nameFields, nameTold};
+ghost use Rattle.wide_number.specs.Meaning.{single_of, order_of};
+ghost use Rattle.brundhal_cell_answers.specs.Meaning.{move_numbers, move_fields, address_held};
+ghost use Rattle.brundhal_number_answers.specs.Meaning.{number_words, number_fields, single_numbers, single_fields, order_number, answer_number, number_held};
+ghost use Rattle.brundhal_mesh_answers.specs.Meaning.{inspection_numbers, inspection_fields, stamp_told, stamp_for};
+ghost use Rattle.brundhal_bounds_answers.specs.Meaning.{bounds_numbers, bounds_fields};
+ghost use Rattle.brundhal_lot_answers.specs.Meaning.{lot_numbers, lot_fields};
+ghost use Rattle.brundhal_written_answers.specs.Meaning.{writing_numbers, written_fields};
+ghost use Rattle.brundhal_name_answers.specs.Meaning.{name_numbers, name_fields, name_told};
 
 use brundhal_bounds_answers::BrundhalBounds;
 use brundhal_cell_answers::{BrundhalAddress, BrundhalMove};
@@ -48,8 +48,8 @@ pub extern "C" fn brundhal_inspect(
     depth: u32,
     report: &mut [i64],
 ) -> BrundhalInspection
-    ensures result_value { inspectionFields result ≡ inspectionNumbers (inspection base coordinates.now indices.now (length report.old) depth) }
-    ensures report_after { report.new ≡ reportAfter base coordinates.now indices.now report.old depth }
+    ensures result_value { inspection_fields result ≡ inspection_numbers (inspection base coordinates.now indices.now (length report.old) depth) }
+    ensures report_after { report.new ≡ report_after base coordinates.now indices.now report.old depth }
 {
     brundhal_mesh_answers::numbers(inspector::inspect(coordinates, indices, depth, report))
 }
@@ -57,7 +57,7 @@ pub extern "C" fn brundhal_inspect(
 // Both bounds of eight points: `inspector::bounds_of`.
 #[unsafe(no_mangle)]
 pub extern "C" fn brundhal_bounds(points: &[i32; 24], depth: u32) -> BrundhalBounds
-    ensures { boundsFields result ≡ boundsNumbers (bounds_of base points.now depth) }
+    ensures { bounds_fields result ≡ bounds_numbers (bounds_of base points.now depth) }
 {
     let p = *points;
     brundhal_bounds_answers::pair(inspector::bounds_of(p, depth))
@@ -71,15 +71,15 @@ pub extern "C" fn brundhal_audit(
     depth: u32,
     report: &mut [i64],
 ) -> BrundhalInspection
-    ensures result_value { inspectionFields result ≡ inspectionNumbers (inspection base coordinates.now indices.now (length report.old) depth) }
-    ensures report_after { report.new ≡ reportAfter base coordinates.now indices.now report.old depth }
+    ensures result_value { inspection_fields result ≡ inspection_numbers (inspection base coordinates.now indices.now (length report.old) depth) }
+    ensures report_after { report.new ≡ report_after base coordinates.now indices.now report.old depth }
 {
     brundhal_mesh_answers::numbers(auditor::inspect(coordinates, indices, depth, report))
 }
 
 #[unsafe(no_mangle)]
 pub extern "C" fn brundhal_audit_bounds(points: &[i32; 24], depth: u32) -> BrundhalBounds
-    ensures { boundsFields result ≡ boundsNumbers (bounds_of base points.now depth) }
+    ensures { bounds_fields result ≡ bounds_numbers (bounds_of base points.now depth) }
 {
     let p = *points;
     brundhal_bounds_answers::pair(auditor::bounds_of(p, depth))
@@ -89,7 +89,7 @@ pub extern "C" fn brundhal_audit_bounds(points: &[i32; 24], depth: u32) -> Brund
 // refused mesh, which has no stamp: 3.
 #[unsafe(no_mangle)]
 pub extern "C" fn brundhal_stamp(answer: BrundhalInspection) -> u32
-    ensures { result ≡ stampTold (stampFor answer) }
+    ensures { result ≡ stamp_told (stamp_for answer) }
 {
     brundhal_mesh_answers::stamp_told(answer)
 }
@@ -97,21 +97,21 @@ pub extern "C" fn brundhal_stamp(answer: BrundhalInspection) -> u32
 // The moves of an address: `cell_address::Address`.
 #[unsafe(no_mangle)]
 pub extern "C" fn brundhal_child(q: BrundhalAddress, n: u32) -> BrundhalMove
-    ensures { moveFields result ≡ moveNumbers (childAddress base.depth (addressHeld q) n) }
+    ensures { move_fields result ≡ move_numbers (child_address base.depth (address_held q) n) }
 {
     brundhal_cell_answers::moved(brundhal_cell_answers::address(q).child(n))
 }
 
 #[unsafe(no_mangle)]
 pub extern "C" fn brundhal_corner(q: BrundhalAddress, n: u32) -> BrundhalMove
-    ensures { moveFields result ≡ moveNumbers (cornerAddress base.depth (addressHeld q) n) }
+    ensures { move_fields result ≡ move_numbers (corner_address base.depth (address_held q) n) }
 {
     brundhal_cell_answers::moved(brundhal_cell_answers::address(q).corner(n))
 }
 
 #[unsafe(no_mangle)]
 pub extern "C" fn brundhal_parent(q: BrundhalAddress) -> BrundhalMove
-    ensures { moveFields result ≡ moveNumbers (parentAddress base.depth (addressHeld q)) }
+    ensures { move_fields result ≡ move_numbers (parent_address base.depth (address_held q)) }
 {
     brundhal_cell_answers::moved(brundhal_cell_answers::address(q).parent())
 }
@@ -126,13 +126,13 @@ pub extern "C" fn brundhal_read_lot(
     lengths: &mut [u32],
     offsets: &mut [u32],
 ) -> BrundhalLot
-    ensures result_value { lotFields result ≡ lotNumbers (readInto lotFile file.now nodes.old elements.old names.old lengths.old offsets.old) }
-    ensures file_value { take result.len (drop result.start file.now) ≡ (handedOut (readInto lotFile file.now nodes.old elements.old names.old lengths.old offsets.old)).label }
-    ensures nodes_after { nodes.new ≡ laidOver (handedOut (readInto lotFile file.now nodes.old elements.old names.old lengths.old offsets.old)).nodes nodes.old }
-    ensures elements_after { elements.new ≡ laidOver (handedOut (readInto lotFile file.now nodes.old elements.old names.old lengths.old offsets.old)).elements elements.old }
-    ensures names_after { names.new ≡ laidOver (handedOut (readInto lotFile file.now nodes.old elements.old names.old lengths.old offsets.old)).names names.old }
-    ensures lengths_after { lengths.new ≡ laidOver (handedOut (readInto lotFile file.now nodes.old elements.old names.old lengths.old offsets.old)).lengths lengths.old }
-    ensures offsets_after { offsets.new ≡ laidOver (handedOut (readInto lotFile file.now nodes.old elements.old names.old lengths.old offsets.old)).offsets offsets.old }
+    ensures result_value { lot_fields result ≡ lot_numbers (read_into lot_file file.now nodes.old elements.old names.old lengths.old offsets.old) }
+    ensures file_value { take result.len (drop result.start file.now) ≡ (handed_out (read_into lot_file file.now nodes.old elements.old names.old lengths.old offsets.old)).label }
+    ensures nodes_after { nodes.new ≡ laid_over (handed_out (read_into lot_file file.now nodes.old elements.old names.old lengths.old offsets.old)).nodes nodes.old }
+    ensures elements_after { elements.new ≡ laid_over (handed_out (read_into lot_file file.now nodes.old elements.old names.old lengths.old offsets.old)).elements elements.old }
+    ensures names_after { names.new ≡ laid_over (handed_out (read_into lot_file file.now nodes.old elements.old names.old lengths.old offsets.old)).names names.old }
+    ensures lengths_after { lengths.new ≡ laid_over (handed_out (read_into lot_file file.now nodes.old elements.old names.old lengths.old offsets.old)).lengths lengths.old }
+    ensures offsets_after { offsets.new ≡ laid_over (handed_out (read_into lot_file file.now nodes.old elements.old names.old lengths.old offsets.old)).offsets offsets.old }
 {
     let mut answer = [0u32; 5];
     let label = lot_reader::read(file, nodes, elements, names, lengths, offsets, &mut answer);
@@ -150,8 +150,8 @@ pub extern "C" fn brundhal_write_lot(
     offsets: &[u32],
     out: &mut [u8],
 ) -> BrundhalWritten
-    ensures result_value { writtenFields result ≡ writingNumbers (writing lotFile (runs label.now nodes.now elements.now names.now lengths.now offsets.now) (length out.old)) }
-    ensures out_after { out.new ≡ laidOver (fileOf (writing lotFile (runs label.now nodes.now elements.now names.now lengths.now offsets.now) (length out.old))) out.old }
+    ensures result_value { written_fields result ≡ writing_numbers (writing lot_file (runs label.now nodes.now elements.now names.now lengths.now offsets.now) (length out.old)) }
+    ensures out_after { out.new ≡ laid_over (file_of (writing lot_file (runs label.now nodes.now elements.now names.now lengths.now offsets.now) (length out.old))) out.old }
 {
     brundhal_written_answers::written(lot_writer::write(
         label, nodes, elements, names, lengths, offsets, out,
@@ -168,8 +168,8 @@ pub extern "C" fn brundhal_name(
     elements: u32,
     element: u32,
 ) -> BrundhalName
-    ensures result_value { nameFields result ≡ nameNumbers label.now (groups_of names.now lengths.now offsets.now) element (naming lotFile label.now names.now lengths.now offsets.now elements element) }
-    ensures names_value { nameTold result label.now names.now ≡ nameGiven (naming lotFile label.now names.now lengths.now offsets.now elements element) }
+    ensures result_value { name_fields result ≡ name_numbers label.now (groups_of names.now lengths.now offsets.now) element (naming lot_file label.now names.now lengths.now offsets.now elements element) }
+    ensures names_value { name_told result label.now names.now ≡ name_given (naming lot_file label.now names.now lengths.now offsets.now elements element) }
 {
     let number = lot_naming::refusal_of(label, names, lengths, offsets, elements, element);
     let part = lot_group_names::part_in_force(names, lengths, offsets, element);
@@ -179,8 +179,8 @@ pub extern "C" fn brundhal_name(
 // Writes the slip of a lot file to the front of the lent bytes and returns its length: `slip_writer::write`.
 #[unsafe(no_mangle)]
 pub extern "C" fn brundhal_slip(file: &[u8], out: &mut [u8; limits::SLIP_BYTES]) -> usize
-    ensures value { result ≡ length (slipOf base lotFile slipLimits file.now) }
-    ensures out_after { out.new ≡ laidOver (slipOf base lotFile slipLimits file.now) out.old }
+    ensures value { result ≡ length (slip_of base lot_file slip_limits file.now) }
+    ensures out_after { out.new ≡ laid_over (slip_of base lot_file slip_limits file.now) out.old }
 {
     slip_writer::write(file, out)
 }
@@ -188,63 +188,63 @@ pub extern "C" fn brundhal_slip(file: &[u8], out: &mut [u8; limits::SLIP_BYTES])
 // Numbers of two words: `wide_number::Wide`. An answer that is a number is modulo 2^128; an order is -1 for less, 0 for equal and 1 for greater.
 #[unsafe(no_mangle)]
 pub extern "C" fn brundhal_number_from_i64(x: i64) -> BrundhalNumber
-    ensures { numberFields result ≡ numberWords x }
+    ensures { number_fields result ≡ number_words x }
 {
     brundhal_number_answers::from_i64(x)
 }
 
 #[unsafe(no_mangle)]
 pub extern "C" fn brundhal_number_to_i64(x: BrundhalNumber) -> BrundhalSingle
-    ensures { singleFields result ≡ singleNumbers (singleOf (numberHeld x)) }
+    ensures { single_fields result ≡ single_numbers (single_of (number_held x)) }
 {
     brundhal_number_answers::to_i64(x)
 }
 
 #[unsafe(no_mangle)]
 pub extern "C" fn brundhal_number_add(x: BrundhalNumber, y: BrundhalNumber) -> BrundhalNumber
-    ensures { numberFields result ≡ numberWords (numberHeld x +ℤ numberHeld y) }
+    ensures { number_fields result ≡ number_words (number_held x +ℤ number_held y) }
 {
     brundhal_number_answers::add(x, y)
 }
 
 #[unsafe(no_mangle)]
 pub extern "C" fn brundhal_number_sub(x: BrundhalNumber, y: BrundhalNumber) -> BrundhalNumber
-    ensures { numberFields result ≡ numberWords (numberHeld x -ℤ numberHeld y) }
+    ensures { number_fields result ≡ number_words (number_held x -ℤ number_held y) }
 {
     brundhal_number_answers::sub(x, y)
 }
 
 #[unsafe(no_mangle)]
 pub extern "C" fn brundhal_number_mul(x: BrundhalNumber, y: BrundhalNumber) -> BrundhalNumber
-    ensures { numberFields result ≡ numberWords (numberHeld x *ℤ numberHeld y) }
+    ensures { number_fields result ≡ number_words (number_held x *ℤ number_held y) }
 {
     brundhal_number_answers::mul(x, y)
 }
 
 #[unsafe(no_mangle)]
 pub extern "C" fn brundhal_number_product(x: i64, y: i64) -> BrundhalNumber
-    ensures { numberFields result ≡ numberWords (x *ℤ y) }
+    ensures { number_fields result ≡ number_words (x *ℤ y) }
 {
     brundhal_number_answers::product(x, y)
 }
 
 #[unsafe(no_mangle)]
 pub extern "C" fn brundhal_number_twice(x: BrundhalNumber) -> BrundhalNumber
-    ensures { numberFields result ≡ numberWords (pos 2 *ℤ numberHeld x) }
+    ensures { number_fields result ≡ number_words (pos 2 *ℤ number_held x) }
 {
     brundhal_number_answers::twice(x)
 }
 
 #[unsafe(no_mangle)]
 pub extern "C" fn brundhal_number_four_times(x: BrundhalNumber) -> BrundhalNumber
-    ensures { numberFields result ≡ numberWords (pos 4 *ℤ numberHeld x) }
+    ensures { number_fields result ≡ number_words (pos 4 *ℤ number_held x) }
 {
     brundhal_number_answers::four_times(x)
 }
 
 #[unsafe(no_mangle)]
 pub extern "C" fn brundhal_number_compare(x: BrundhalNumber, y: BrundhalNumber) -> i32
-    ensures { result ≡ orderNumber (order_of (numberHeld x) (numberHeld y)) }
+    ensures { result ≡ order_number (order_of (number_held x) (number_held y)) }
 {
     brundhal_number_answers::compare(x, y)
 }
@@ -252,14 +252,14 @@ pub extern "C" fn brundhal_number_compare(x: BrundhalNumber, y: BrundhalNumber) 
 // The order against 0.
 #[unsafe(no_mangle)]
 pub extern "C" fn brundhal_number_sign(x: BrundhalNumber) -> i32
-    ensures { result ≡ orderNumber (order_of (numberHeld x) (pos 0)) }
+    ensures { result ≡ order_number (order_of (number_held x) (pos 0)) }
 {
     brundhal_number_answers::sign(x)
 }
 
 #[unsafe(no_mangle)]
 pub extern "C" fn brundhal_number_at_most(x: BrundhalNumber, y: BrundhalNumber) -> u32
-    ensures { result ≡ answerNumber (le_z (numberHeld x) (numberHeld y)) }
+    ensures { result ≡ answer_number (le_z (number_held x) (number_held y)) }
 {
     brundhal_number_answers::at_most(x, y)
 }

@@ -1,8 +1,8 @@
 // The answers of the bounds service as plain numbers for callers in C and Rust. An inner crate: `brundhal` exports the services.
 // Every contract is an equation with `specs/Meaning.antt`: the fields of an answer are the numbers of the definition's.
 ghost use Rattle.std.specs.Prelude.{◌≡◌, [], ◌∷◌};
-ghost use Rattle.inspection_answers.specs.Meaning.{boundsHeld};
-ghost use Rattle.brundhal_bounds_answers.specs.Meaning.{boundsNumbers, boundsFields};
+ghost use Rattle.inspection_answers.specs.Meaning.{bounds_held};
+ghost use Rattle.brundhal_bounds_answers.specs.Meaning.{bounds_numbers, bounds_fields};
 
 use brundhal_number_answers::{BrundhalNumber, words};
 use inspection_answers::Bounds;
@@ -18,7 +18,7 @@ pub struct BrundhalBounds {
 
 // A refusal, by number alone: both bounds are 0.
 fn refused(number: u32) -> BrundhalBounds
-    ensures { boundsFields result ≡ number ∷ 0 ∷ 0 ∷ 0 ∷ 0 ∷ [] }
+    ensures { bounds_fields result ≡ number ∷ 0 ∷ 0 ∷ 0 ∷ 0 ∷ [] }
 {
     BrundhalBounds {
         number: number,
@@ -29,7 +29,7 @@ fn refused(number: u32) -> BrundhalBounds
 
 // Both bounds.
 pub fn pair(answer: Bounds) -> BrundhalBounds
-    ensures { boundsFields result ≡ boundsNumbers (boundsHeld answer) }
+    ensures { bounds_fields result ≡ bounds_numbers (bounds_held answer) }
 {
     match answer {
         Bounds::Both(low, high) => BrundhalBounds {

@@ -2,7 +2,7 @@
 // is an equation with `specs/Meaning.antt`: the fields of an answer are the numbers of the definition's.
 ghost use Rattle.std.specs.Prelude.{◌≡◌};
 ghost use Rattle.cell_address.specs.Meaning.{address_of, move_of};
-ghost use Rattle.brundhal_cell_answers.specs.Meaning.{moveNumbers, moveFields, addressHeld};
+ghost use Rattle.brundhal_cell_answers.specs.Meaning.{move_numbers, move_fields, address_held};
 
 use cell_address::{Address, Moved};
 
@@ -29,7 +29,7 @@ pub struct BrundhalMove {
 
 // An address that is handed in.
 pub fn address(q: BrundhalAddress) -> Address
-    ensures { address_of result ≡ addressHeld q }
+    ensures { address_of result ≡ address_held q }
 {
     Address {
         level: q.level,
@@ -41,7 +41,7 @@ pub fn address(q: BrundhalAddress) -> Address
 
 // A move of an address.
 pub fn moved(answer: Moved) -> BrundhalMove
-    ensures { moveFields result ≡ moveNumbers (move_of answer) }
+    ensures { move_fields result ≡ move_numbers (move_of answer) }
 {
     match answer {
         Moved::To(q) => BrundhalMove {

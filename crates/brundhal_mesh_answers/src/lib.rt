@@ -1,9 +1,9 @@
 // The answers of inspections and stamps as plain numbers for callers in C and Rust, and what their plain numbers stand for. An
 // inner crate: `brundhal` exports the services. Every contract is an equation with `specs/Meaning.antt`: the fields of an answer are the numbers of the definition's.
 ghost use Rattle.std.specs.Prelude.{◌≡◌};
-ghost use Rattle.inspection_counts.specs.Meaning.{stampHeld};
-ghost use Rattle.inspection_answers.specs.Meaning.{inspectionHeld};
-ghost use Rattle.brundhal_mesh_answers.specs.Meaning.{inspectionNumbers, inspectionFields, stampNumber, stampTold, stampFor};
+ghost use Rattle.inspection_counts.specs.Meaning.{stamp_held};
+ghost use Rattle.inspection_answers.specs.Meaning.{inspection_held};
+ghost use Rattle.brundhal_mesh_answers.specs.Meaning.{inspection_numbers, inspection_fields, stamp_number, stamp_told, stamp_for};
 
 use inspection_answers::Inspection;
 use inspection_counts::{Counts, Stamp};
@@ -34,7 +34,7 @@ fn refused(number: u32) -> BrundhalInspection
 
 // An inspection.
 pub fn numbers(answer: Inspection) -> BrundhalInspection
-    ensures { inspectionFields result ≡ inspectionNumbers (inspectionHeld answer) }
+    ensures { inspection_fields result ≡ inspection_numbers (inspection_held answer) }
 {
     match answer {
         Inspection::Accepted(n) => BrundhalInspection {
@@ -52,7 +52,7 @@ pub fn numbers(answer: Inspection) -> BrundhalInspection
 }
 
 fn stamp_number(stamp: Stamp) -> u32
-    ensures { result ≡ stampNumber (stampHeld stamp) }
+    ensures { result ≡ stamp_number (stamp_held stamp) }
 {
     match stamp {
         Stamp::Sound => 0,
@@ -64,7 +64,7 @@ fn stamp_number(stamp: Stamp) -> u32
 // The stamp of an inspection's answer, 0 sound, 1 faulty or 2 open: `inspection_counts::stamp_of`. An answer with another number than 0 is that of a
 // refused mesh, which has no stamp: 3.
 pub fn stamp_told(answer: BrundhalInspection) -> u32
-    ensures { result ≡ stampTold (stampFor answer) }
+    ensures { result ≡ stamp_told (stamp_for answer) }
 {
     if answer.number != 0 {
         return 3;

@@ -1,7 +1,7 @@
 // The answers of naming as plain numbers for callers in C and Rust. An inner crate: `brundhal` exports the services.
 // Every contract is an equation with `specs/Meaning.antt`: the fields of an answer are the numbers of the definition's.
 ghost use Rattle.std.specs.Prelude.{◌≡◌};
-ghost use Rattle.brundhal_name_answers.specs.Meaning.{nameFields, nameSaid};
+ghost use Rattle.brundhal_name_answers.specs.Meaning.{name_fields, name_said};
 
 use lot_group_names::Part;
 
@@ -18,7 +18,7 @@ pub struct BrundhalName {
 
 // The name of an element, by the number that answers, the part of the names that is in force there and the length of the label.
 pub fn name(number: u32, part: Part, label: usize) -> BrundhalName
-    ensures { nameFields result ≡ nameSaid number part.start part.len label }
+    ensures { name_fields result ≡ name_said number part.start part.len label }
 {
     if number != 0 {
         return BrundhalName {

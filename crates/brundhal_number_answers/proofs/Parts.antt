@@ -5,17 +5,17 @@ use Prim.Native.Nat.{ℕ}
 use lib.IntN.{ℤ}
 use mir.Syntax.{w128}
 use Rattle.definitions.specs.TwoWords.{value, wrapped}
-use Rattle.wrapping_theory.specs.Words.{AreWords, low-word-is, high-word-is, wrapped-low, wrapped-high}
-use Rattle.brundhal_number_answers.specs.Meaning.{numberWords}
+use Rattle.wrapping_theory.specs.Words.{AreWords, low_word_is, high_word_is, wrapped_low, wrapped_high}
+use Rattle.brundhal_number_answers.specs.Meaning.{number_words}
 
-pub own-words : (low high : ℕ) → AreWords low high → low ∷ high ∷ [] ≡ numberWords (value low high)
-unfolding numberWords
-own-words low high w = λ i. sym (low-word-is low high w) i ∷ sym (high-word-is low high w) i ∷ []
+pub own_words : (low high : ℕ) → AreWords low high → low ∷ high ∷ [] ≡ number_words (value low high)
+unfolding number_words
+own_words low high w = λ i. sym (low_word_is low high w) i ∷ sym (high_word_is low high w) i ∷ []
 
-pub wrapped-words : (z : ℤ) → numberWords (wrapped w128 z) ≡ numberWords z
-unfolding numberWords
-wrapped-words z = λ i. wrapped-low z i ∷ wrapped-high z i ∷ []
+pub wrapped_words : (z : ℤ) → number_words (wrapped w128 z) ≡ number_words z
+unfolding number_words
+wrapped_words z = λ i. wrapped_low z i ∷ wrapped_high z i ∷ []
 
 -- what is handed back is a representative: then its words are those of the whole number
-pub answered : {fields : List ℕ} {v z exact : ℤ} → fields ≡ numberWords v → v ≡ wrapped w128 z → z ≡ exact → fields ≡ numberWords exact
-answered {z = z} e f g = e ∙ ap numberWords f ∙ wrapped-words z ∙ ap numberWords g
+pub answered : {fields : List ℕ} {v z exact : ℤ} → fields ≡ number_words v → v ≡ wrapped w128 z → z ≡ exact → fields ≡ number_words exact
+answered {z = z} e f g = e ∙ ap number_words f ∙ wrapped_words z ∙ ap number_words g

@@ -10,31 +10,31 @@ use Rattle.brundhal_number_answers.specs.declared.BrundhalSingle.{BrundhalSingle
 
 -- ---- what an answer says: the numbers of the definition's answer, and beside them the fields of the struct, each once and in the same order
 -- a whole number modulo 2^128: its low word, and then its high one
-unfoldable pub numberWords : ℤ → List ℕ
-numberWords z = low_word z ∷ high_word z ∷ []
+unfoldable pub number_words : ℤ → List ℕ
+number_words z = low_word z ∷ high_word z ∷ []
 
-abbrev pub numberFields : BrundhalNumber → List ℕ
-numberFields r = r.low ∷ r.high ∷ []
+abbrev pub number_fields : BrundhalNumber → List ℕ
+number_fields r = r.low ∷ r.high ∷ []
 
 -- a number in one word: 1 and the number, or 0 and 0
-abbrev pub singleNumbers : Single → List ℤ
-singleNumbers (Number z) = pos 1 ∷ z ∷ []
-singleNumbers TooLong = pos 0 ∷ pos 0 ∷ []
+abbrev pub single_numbers : Single → List ℤ
+single_numbers (Number z) = pos 1 ∷ z ∷ []
+single_numbers TooLong = pos 0 ∷ pos 0 ∷ []
 
-abbrev pub singleFields : BrundhalSingle → List ℤ
-singleFields r = pos r.fits ∷ r.value ∷ []
+abbrev pub single_fields : BrundhalSingle → List ℤ
+single_fields r = pos r.fits ∷ r.value ∷ []
 
 -- an order: −1 less, 0 equal, 1 greater
-abbrev pub orderNumber : Order → ℤ
-orderNumber Less = negsuc 0
-orderNumber Equal = pos 0
-orderNumber Greater = pos 1
+abbrev pub order_number : Order → ℤ
+order_number Less = negsuc 0
+order_number Equal = pos 0
+order_number Greater = pos 1
 
 -- yes or no: 1 or 0
-abbrev pub answerNumber : Bool → ℕ
-answerNumber true = 1
-answerNumber false = 0
+abbrev pub answer_number : Bool → ℕ
+answer_number true = 1
+answer_number false = 0
 
 -- ---- what a caller's words stand for
-abbrev pub numberHeld : BrundhalNumber → ℤ
-numberHeld x = value x.low x.high
+abbrev pub number_held : BrundhalNumber → ℤ
+number_held x = value x.low x.high

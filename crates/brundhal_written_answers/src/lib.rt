@@ -1,9 +1,9 @@
 // The answers of writing as plain numbers for callers in C and Rust. An inner crate: `brundhal` exports the services.
 // Every contract is an equation with `specs/Meaning.antt`: the fields of an answer are the numbers of the definition's.
 ghost use Rattle.std.specs.Prelude.{◌≡◌};
-ghost use Rattle.lot_format.specs.Writing.{unwritableNumber};
-ghost use Rattle.lot_writer.specs.Meaning.{unwritableHeld, writtenHeld};
-ghost use Rattle.brundhal_written_answers.specs.Meaning.{writtenFields, answerNumbers, ShortAnswer};
+ghost use Rattle.lot_format.specs.Writing.{unwritable_number};
+ghost use Rattle.lot_writer.specs.Meaning.{unwritable_held, written_held};
+ghost use Rattle.brundhal_written_answers.specs.Meaning.{written_fields, answer_numbers, ShortAnswer};
 
 use lot_writer::{Unwritable, Written};
 
@@ -16,7 +16,7 @@ pub struct BrundhalWritten {
 }
 
 fn unwritable_number(r: Unwritable) -> u32
-    ensures { result ≡ unwritableNumber (unwritableHeld r) }
+    ensures { result ≡ unwritable_number (unwritable_held r) }
 {
     match r {
         Unwritable::PartialNode => 2,
@@ -33,7 +33,7 @@ fn unwritable_number(r: Unwritable) -> u32
 // The writing of a lot file, whose length fits.
 pub fn written(answer: Written) -> BrundhalWritten
     requires { ShortAnswer answer }
-    ensures { writtenFields result ≡ answerNumbers (writtenHeld answer) }
+    ensures { written_fields result ≡ answer_numbers (written_held answer) }
 {
     match answer {
         Written::Length(n) => BrundhalWritten {

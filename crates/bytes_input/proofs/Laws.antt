@@ -16,14 +16,14 @@ pub signed_high : (x : ℕ) → 2147483648 ≤ x → signed x ≡ negsuc (429496
 unfolding signed
 signed_high x h = rw (le-ltb x 2147483648 h, signed)
 
-pub below-zero : (n : ℕ) → negsuc 0 -ℤ pos n ≡ negsuc n
-below-zero zero = refl
-below-zero (suc n) = ap (λ (k : ℕ). negsuc (suc k)) (zero-add n)
+pub below_zero : (n : ℕ) → negsuc 0 -ℤ pos n ≡ negsuc n
+below_zero zero = refl
+below_zero (suc n) = ap (λ (k : ℕ). negsuc (suc k)) (zero-add n)
 
 -- the machine's
-pub signed-toZ : (x : ℕ) → signed x ≡ to_z w32 x
+pub signed_to_z : (x : ℕ) → signed x ≡ to_z w32 x
 unfolding signed
-signed-toZ x = go (ltb x (2 ^ 31))
+signed_to_z x = go (ltb x (2 ^ 31))
   where
     go : (b : Bool) → ◌≡◌ {A = ℤ} (elim b [ true ↦ pos x | false ↦ negsuc (2 ^ 32 - 1 - x) ]) (sel b (pos x) (negsuc (2 ^ 32 - suc x)))
     go true = refl

@@ -1,7 +1,7 @@
 // Bytes laid over lent space from a place on; each function returns the place behind them. An inner crate: its callers see that there is
 // room. Numbers stand low byte first, as `Numbers` of the crate `lot_format` has it.
 ghost use Rattle.std.specs.Prelude.{◌≡◌, [], ◌∷◌, ◌+◌, ◌%◌, ◌≤◌, ◌<◌, length};
-ghost use Rattle.lot_format.specs.Numbers.{numberBytes};
+ghost use Rattle.lot_format.specs.Numbers.{number_bytes};
 ghost use Rattle.bytes_output.specs.Behind.{Laid};
 
 // One byte.
@@ -35,7 +35,7 @@ fn low(x: u32) -> u8
 // The two bytes of a number.
 pub fn short(out: &mut [u8], at: usize, x: u32) -> usize
     requires { (at + 2 ≤ length out.old) × (x < 65536) }
-    ensures { Laid at (numberBytes 2 x) out.old out.new result }
+    ensures { Laid at (number_bytes 2 x) out.old out.new result }
 {
     let next = byte(out, at, low(x));
     byte(out, next, low(x / 256))
@@ -44,7 +44,7 @@ pub fn short(out: &mut [u8], at: usize, x: u32) -> usize
 // The four bytes of a number.
 pub fn word(out: &mut [u8], at: usize, x: u32) -> usize
     requires { at + 4 ≤ length out.old }
-    ensures { Laid at (numberBytes 4 x) out.old out.new result }
+    ensures { Laid at (number_bytes 4 x) out.old out.new result }
 {
     let next = short(out, at, x % 65536);
     short(out, next, x / 65536)

@@ -6,7 +6,7 @@ use native.Mathlib.Omega.{arith}
 use borrow.Author.Tests.{ltb-true, leb-true}
 use lib.Dec.{leb, ltb}
 use lib.Pow.{pow_mono}
-use Rattle.definitions.specs.Address.{Address, isCell, isCorner}
+use Rattle.definitions.specs.Address.{Address, is_cell, is_corner}
 
 pub both : (x y : Bool) → (x && y) ≡ true → (x ≡ true) × (y ≡ true)
 both x y = (and-eq-true_iff x y).0
@@ -20,8 +20,8 @@ pub record Bounded (depth : ℕ) (q : Address) (n : ℕ) : Type 0 where
   pub first : 1 ≤ n
   pub last : n ≤ 8
 
-pub bounded : (depth : ℕ) (q : Address) (n : ℕ) → isCell depth q ≡ true → isCorner n ≡ true → Bounded depth q n
-unfolding isCell
+pub bounded : (depth : ℕ) (q : Address) (n : ℕ) → is_cell depth q ≡ true → is_corner n ≡ true → Bounded depth q n
+unfolding is_cell
 bounded depth q n cell corner =
     let level = both (leb q.level depth) _ cell in
     let a = both (ltb q.a (2 ^ q.level)) _ level.1 in

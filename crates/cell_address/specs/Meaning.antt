@@ -14,5 +14,5 @@ move_of (To q) = record { made = true; address = address_of q }
 move_of (Not q) = record { made = false; address = address_of q }
 
 -- the grid numbers plus the place, 0 or 1 on each axis, of the corner or child that the documents number n
-abbrev pub offsetBy : Address → ℕ → Address
-offsetBy q n = let k = n - 1 in record { level = q.level; a = q.a + side 0 k; b = q.b + side 1 k; c = q.c + side 2 k }
+abbrev pub offset_by : Address → ℕ → Address
+offset_by q n = let k = n - 1 in record { level = q.level; a = q.a + side 0 k; b = q.b + side 1 k; c = q.c + side 2 k }

@@ -2,11 +2,11 @@
 // The reference cube is the cell of level 0, and a cell cut into eight gives cells one level finer (document 01 says "cube" for a cell
 // of any level). The crate offers `Address` with the moves `child`, `corner` and `parent`. Each takes the address by value and hands back
 // the moved one, or the same one where the move can't be made. The moves ask nothing of the caller: any address and any number is
-// answered, as `childAddress`, `cornerAddress` and `parentAddress` of the definitions say.
+// answered, as `child_address`, `corner_address` and `parent_address` of the definitions say.
 ghost use Rattle.std.specs.Prelude.{◌≡◌, ◌^◌, ◌<◌, ◌≤◌};
 ghost use Rattle.definitions.specs.Limits.{base};
-ghost use Rattle.definitions.specs.Address.{isCell, childAddress, cornerAddress, parentAddress};
-ghost use Rattle.cell_address.specs.Meaning.{address_of, move_of, offsetBy};
+ghost use Rattle.definitions.specs.Address.{is_cell, child_address, corner_address, parent_address};
+ghost use Rattle.cell_address.specs.Meaning.{address_of, move_of, offset_by};
 
 use limits::MAX_DEPTH;
 
@@ -39,7 +39,7 @@ fn grid_size(level: u32) -> u32
 impl Address {
     // Whether the address is a cell's: its level is at most the largest depth, and each grid number is below 2^level.
     fn is_cell(self) -> bool
-        ensures { result ≡ isCell base.depth (address_of self) }
+        ensures { result ≡ is_cell base.depth (address_of self) }
     {
         if MAX_DEPTH < self.level {
             return false;
@@ -52,7 +52,7 @@ impl Address {
     fn offset(self, n: u32) -> Address
         requires le_n { (1 ≤ n) × (n ≤ 8) }
         requires a_bound { (self.a < 2 ^ 31) × ((self.b < 2 ^ 31) × (self.c < 2 ^ 31)) }
-        ensures { address_of result ≡ offsetBy (address_of self) n }
+        ensures { address_of result ≡ offset_by (address_of self) n }
     {
         let k = n - 1;
         Address {
@@ -65,7 +65,7 @@ impl Address {
 
     // Child n, 1 to 8, of a cell that is not of the finest level: one level finer, at twice the grid numbers plus its place.
     pub fn child(self, n: u32) -> Moved
-        ensures { move_of result ≡ childAddress base.depth (address_of self) n }
+        ensures { move_of result ≡ child_address base.depth (address_of self) n }
     {
         if self.is_cell() & ((self.level < MAX_DEPTH) & cell_corners::is_corner(n)) {
             let doubled = Address {
@@ -82,7 +82,7 @@ impl Address {
 
     // Corner n, 1 to 8, of a cell: a grid point of the cell's level, whose numbers may reach 2^level.
     pub fn corner(self, n: u32) -> Moved
-        ensures { move_of result ≡ cornerAddress base.depth (address_of self) n }
+        ensures { move_of result ≡ corner_address base.depth (address_of self) n }
     {
         if self.is_cell() & cell_corners::is_corner(n) {
             Moved::To(self.offset(n))
@@ -93,7 +93,7 @@ impl Address {
 
     // The parent of a cell that is not the whole: one level coarser, at half the grid numbers, rounded down.
     pub fn parent(self) -> Moved
-        ensures { move_of result ≡ parentAddress base.depth (address_of self) }
+        ensures { move_of result ≡ parent_address base.depth (address_of self) }
     {
         if self.is_cell() & (1 <= self.level) {
             Moved::To(Address {

@@ -1,12 +1,12 @@
 // How corners and children are numbered: which numbers they have, and on which side of a cell each one lies. The functions ask nothing of
-// the caller, and answer as `isCorner` and `side` of the definitions say.
+// the caller, and answer as `is_corner` and `side` of the definitions say.
 ghost use Rattle.std.specs.Prelude.{◌≡◌, ◌≤◌};
 ghost use Rattle.definitions.specs.Jacobian.{side as side_of};
-ghost use Rattle.definitions.specs.Address.{isCorner};
+ghost use Rattle.definitions.specs.Address.{is_corner};
 
 // Whether n numbers a corner or a child: 1 to 8.
 pub fn is_corner(n: u32) -> bool
-    ensures { result ≡ isCorner n }
+    ensures { result ≡ is_corner n }
 {
     (1 <= n) & (n <= 8)
 }

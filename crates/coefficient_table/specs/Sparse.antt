@@ -1,6 +1,6 @@
 -- Document 02, No. 3: "Work each row from a list of its non-zero places with their numbers". Held as compressed sparse row (CSR).
 use Rattle.std.specs.Prelude.{◌≡◌, Bool, true, false, List, [], ◌∷◌, map, ℕ, zero, suc, ◌+◌, ◌-◌, get_or, length, ℤ, pos, negsuc}
-use Rattle.foundation.specs.Lists.{concatMap, tabulate}
+use Rattle.foundation.specs.Lists.{concat_map, tabulate}
 use Rattle.definitions.specs.Coefficients.{row}
 
 -- ---- the lists
@@ -19,32 +19,32 @@ abbrev pub kept : ℕ → ℤ → List Entry → List Entry
 kept k c es = elim (is_zero c) [ true ↦ es | false ↦ record { column = k; value = c } ∷ es ]
 
 -- the non-zero places of a list of numbers whose first place is k
-abbrev pub nonZeroFrom : ℕ → List ℤ → List Entry
-nonZeroFrom k [] = []
-nonZeroFrom k (c ∷ cs) = kept k c (nonZeroFrom (suc k) cs)
+abbrev pub non_zero_from : ℕ → List ℤ → List Entry
+non_zero_from k [] = []
+non_zero_from k (c ∷ cs) = kept k c (non_zero_from (suc k) cs)
 
 -- the list of row n
-abbrev pub sparseRow : ℕ → List Entry
-sparseRow n = nonZeroFrom 0 (row n)
+abbrev pub sparse_row : ℕ → List Entry
+sparse_row n = non_zero_from 0 (row n)
 
 -- ---- the lists in three runs
 -- the lists of the first n rows, laid end to end
-abbrev pub sparseRows : ℕ → List Entry
-sparseRows n = concatMap sparseRow (tabulate (λ i. i) 0 n)
+abbrev pub sparse_rows : ℕ → List Entry
+sparse_rows n = concat_map sparse_row (tabulate (λ i. i) 0 n)
 
 -- where each list starts and, last, where the 27th ends
-abbrev pub tableStarts : List ℕ
-tableStarts = tabulate (λ n. length (sparseRows n)) 0 28
+abbrev pub table_starts : List ℕ
+table_starts = tabulate (λ n. length (sparse_rows n)) 0 28
 
-abbrev pub tableColumns : List ℕ
-tableColumns = map (λ (e : Entry). e.column) (sparseRows 27)
+abbrev pub table_columns : List ℕ
+table_columns = map (λ (e : Entry). e.column) (sparse_rows 27)
 
-abbrev pub tableValues : List ℤ
-tableValues = map (λ (e : Entry). e.value) (sparseRows 27)
+abbrev pub table_values : List ℤ
+table_values = map (λ (e : Entry). e.value) (sparse_rows 27)
 
 -- the runs are these three
 pub record AreSparseRows (starts columns : List ℕ) (values : List ℤ) : Type 0 where
-  pub same : ◌≡◌ {A = List ℕ × (List ℕ × List ℤ)} (starts, (columns, values)) (tableStarts, (tableColumns, tableValues))
+  pub same : ◌≡◌ {A = List ℕ × (List ℕ × List ℤ)} (starts, (columns, values)) (table_starts, (table_columns, table_values))
 
 -- ---- what runs hold
 abbrev pub entry_at : List ℕ → List ℤ → ℕ → Entry
@@ -55,5 +55,5 @@ abbrev pub entries : List ℕ → List ℤ → ℕ → ℕ → List Entry
 entries columns values i j = tabulate (entry_at columns values) i (j - i)
 
 -- the list of row n: from its start up to the next one's
-abbrev pub heldRow : List ℕ → List ℕ → List ℤ → ℕ → List Entry
-heldRow starts columns values n = entries columns values (get_or starts n 0) (get_or starts (n + 1) 0)
+abbrev pub held_row : List ℕ → List ℕ → List ℤ → ℕ → List Entry
+held_row starts columns values n = entries columns values (get_or starts n 0) (get_or starts (n + 1) 0)

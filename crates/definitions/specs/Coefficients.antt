@@ -2,27 +2,27 @@
 use Rattle.std.specs.Prelude.{List, [], ◌∷◌, ◌++◌, map, ℕ, zero, suc, ◌+◌, ◌*◌, ◌-◌, ◌/◌, get_or, length, take, drop, ℤ, pos, negsuc}
 use Rattle.foundation.specs.Polynomial.{Arithmetic, integers}
 use Rattle.foundation.specs.Lists.{tabulate, sum}
-use Rattle.definitions.specs.Jacobian.{side, Nodes, nodesOf, det}
+use Rattle.definitions.specs.Jacobian.{side, Nodes, nodes_of, det}
 
 -- "1 to 8: corners."
-abbrev pub cornerNumbers : List (List ℕ)
-cornerNumbers = (1 ∷ []) ∷ (2 ∷ []) ∷ (3 ∷ []) ∷ (4 ∷ []) ∷ (5 ∷ []) ∷ (6 ∷ []) ∷ (7 ∷ []) ∷ (8 ∷ []) ∷ []
+abbrev pub corner_numbers : List (List ℕ)
+corner_numbers = (1 ∷ []) ∷ (2 ∷ []) ∷ (3 ∷ []) ∷ (4 ∷ []) ∷ (5 ∷ []) ∷ (6 ∷ []) ∷ (7 ∷ []) ∷ (8 ∷ []) ∷ []
 
 -- "9 to 20: edges 1-2, 2-3, 3-4, 1-4, 1-5, 2-6, 3-7, 4-8, 5-6, 6-7, 7-8, 5-8."
-abbrev pub edgeNumbers : List (List ℕ)
-edgeNumbers =
+abbrev pub edge_numbers : List (List ℕ)
+edge_numbers =
     (1 ∷ 2 ∷ []) ∷ (2 ∷ 3 ∷ []) ∷ (3 ∷ 4 ∷ []) ∷ (1 ∷ 4 ∷ []) ∷ (1 ∷ 5 ∷ []) ∷ (2 ∷ 6 ∷ []) ∷
     (3 ∷ 7 ∷ []) ∷ (4 ∷ 8 ∷ []) ∷ (5 ∷ 6 ∷ []) ∷ (6 ∷ 7 ∷ []) ∷ (7 ∷ 8 ∷ []) ∷ (5 ∷ 8 ∷ []) ∷ []
 
 -- "21 to 26: faces 1234, 1256, 2367, 3478, 1458, 5678. 27: the centre."
-abbrev pub faceNumbers : List (List ℕ)
-faceNumbers =
+abbrev pub face_numbers : List (List ℕ)
+face_numbers =
     (1 ∷ 2 ∷ 3 ∷ 4 ∷ []) ∷ (1 ∷ 2 ∷ 5 ∷ 6 ∷ []) ∷ (2 ∷ 3 ∷ 6 ∷ 7 ∷ []) ∷
     (3 ∷ 4 ∷ 7 ∷ 8 ∷ []) ∷ (1 ∷ 4 ∷ 5 ∷ 8 ∷ []) ∷ (5 ∷ 6 ∷ 7 ∷ 8 ∷ []) ∷ []
 
 -- the corners that each of the 27 lies between
 abbrev pub numbering : List (List ℕ)
-numbering = cornerNumbers ++ edgeNumbers ++ faceNumbers ++ ((1 ∷ 2 ∷ 3 ∷ 4 ∷ 5 ∷ 6 ∷ 7 ∷ 8 ∷ []) ∷ [])
+numbering = corner_numbers ++ edge_numbers ++ face_numbers ++ ((1 ∷ 2 ∷ 3 ∷ 4 ∷ 5 ∷ 6 ∷ 7 ∷ 8 ∷ []) ∷ [])
 
 -- its place in direction d: 0, 1, 2 for the start, the middle, the end
 abbrev pub place : ℕ → List ℕ → ℕ
@@ -41,14 +41,14 @@ at c i j k = get_or c (get_or numbers (9 * i + 3 * j + k) 0) (pos 0)
 
 -- "They come from 20 volumes: J at the eight corners and at the twelve edge middles, each six times a tetrahedron's volume."
 -- A corner's tetrahedron: the corner and its three neighbours.
-abbrev pub cornerTetrahedra : List (List ℕ)
-cornerTetrahedra =
+abbrev pub corner_tetrahedra : List (List ℕ)
+corner_tetrahedra =
     (1 ∷ 2 ∷ 4 ∷ 5 ∷ []) ∷ (2 ∷ 3 ∷ 1 ∷ 6 ∷ []) ∷ (3 ∷ 4 ∷ 2 ∷ 7 ∷ []) ∷ (4 ∷ 1 ∷ 3 ∷ 8 ∷ []) ∷
     (5 ∷ 8 ∷ 6 ∷ 1 ∷ []) ∷ (6 ∷ 5 ∷ 7 ∷ 2 ∷ []) ∷ (7 ∷ 6 ∷ 8 ∷ 3 ∷ []) ∷ (8 ∷ 7 ∷ 5 ∷ 4 ∷ []) ∷ []
 
 -- "For edge 1-2 it is the tetrahedron n1, n2, (n3+n4)/2, (n5+n6)/2." The ends, and the two pairs whose middles are the other vertices.
-abbrev pub edgeTetrahedra : List (List ℕ)
-edgeTetrahedra =
+abbrev pub edge_tetrahedra : List (List ℕ)
+edge_tetrahedra =
     (1 ∷ 2 ∷ 3 ∷ 4 ∷ 5 ∷ 6 ∷ []) ∷ (2 ∷ 3 ∷ 1 ∷ 4 ∷ 6 ∷ 7 ∷ []) ∷ (3 ∷ 4 ∷ 1 ∷ 2 ∷ 7 ∷ 8 ∷ []) ∷ (1 ∷ 4 ∷ 5 ∷ 8 ∷ 2 ∷ 3 ∷ []) ∷
     (1 ∷ 5 ∷ 2 ∷ 6 ∷ 4 ∷ 8 ∷ []) ∷ (2 ∷ 6 ∷ 3 ∷ 7 ∷ 1 ∷ 5 ∷ []) ∷ (3 ∷ 7 ∷ 4 ∷ 8 ∷ 2 ∷ 6 ∷ []) ∷ (4 ∷ 8 ∷ 1 ∷ 5 ∷ 3 ∷ 7 ∷ []) ∷
     (5 ∷ 6 ∷ 1 ∷ 2 ∷ 7 ∷ 8 ∷ []) ∷ (6 ∷ 7 ∷ 2 ∷ 3 ∷ 5 ∷ 8 ∷ []) ∷ (7 ∷ 8 ∷ 3 ∷ 4 ∷ 5 ∷ 6 ∷ []) ∷ (5 ∷ 8 ∷ 6 ∷ 7 ∷ 1 ∷ 4 ∷ []) ∷ []
@@ -67,15 +67,15 @@ module _ {A : Type 0} (o : Arithmetic A) (x : Nodes A) where
   middle p q r e = edge p q e ⊕ edge p r e
 
   -- J at a corner
-  abbrev pub cornerVolume : List ℕ → A
-  cornerVolume t = let n : ℕ → ℕ = λ i. get_or t i 0 in det o (edge (n 0) (n 1)) (edge (n 0) (n 2)) (edge (n 0) (n 3))
+  abbrev pub corner_volume : List ℕ → A
+  corner_volume t = let n : ℕ → ℕ = λ i. get_or t i 0 in det o (edge (n 0) (n 1)) (edge (n 0) (n 2)) (edge (n 0) (n 3))
 
   -- "Four times an edge value is whole": 4 J at an edge's middle
-  abbrev pub edgeVolume : List ℕ → A
-  edgeVolume t = let n : ℕ → ℕ = λ i. get_or t i 0 in det o (edge (n 0) (n 1)) (middle (n 0) (n 2) (n 3)) (middle (n 0) (n 4) (n 5))
+  abbrev pub edge_volume : List ℕ → A
+  edge_volume t = let n : ℕ → ℕ = λ i. get_or t i 0 in det o (edge (n 0) (n 1)) (middle (n 0) (n 2) (n 3)) (middle (n 0) (n 4) (n 5))
 
   abbrev pub volumes : List A
-  volumes = map cornerVolume cornerTetrahedra ++ map edgeVolume edgeTetrahedra
+  volumes = map corner_volume corner_tetrahedra ++ map edge_volume edge_tetrahedra
 
 -- "a constant table of 540 whole numbers, 27 rows of 20"
 abbrev pub table : List ℤ
@@ -119,4 +119,4 @@ dot o (c ∷ cs) (v ∷ vs) = o.plus (o.times (o.whole c) v) (dot o cs vs)
 
 -- "All are kept times 8": the 27 coefficients of the eight points.
 unfoldable pub coefficients : List ℤ → List ℤ
-coefficients xs = let vs = volumes integers (nodesOf xs) in tabulate (λ n. dot integers (row n) vs) 0 27
+coefficients xs = let vs = volumes integers (nodes_of xs) in tabulate (λ n. dot integers (row n) vs) 0 27

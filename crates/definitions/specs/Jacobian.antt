@@ -60,13 +60,13 @@ grid N a b c (suc zero) = pair N b
 grid N a b c (suc (suc d)) = pair N c
 
 -- Eight points are a list of 24 coordinates, in place order, x, y, z of each.
-abbrev pub nodesOf : List ℤ → Nodes ℤ
-nodesOf xs k e = get_or xs (3 * k + e) (pos 0)
+abbrev pub nodes_of : List ℤ → Nodes ℤ
+nodes_of xs k e = get_or xs (3 * k + e) (pos 0)
 
 -- "there 64^m · J is a whole number, and that whole number is the definition"
 unfoldable pub jacobian : List ℤ → ℕ → ℕ → ℕ → ℕ → ℤ
-jacobian xs m a b c = J integers (nodesOf xs) (grid (2 ^ m) a b c)
+jacobian xs m a b c = J integers (nodes_of xs) (grid (2 ^ m) a b c)
 
 -- J held as the coefficients of level m are: times 8 · 64^m
-unfoldable pub scaledJacobian : List ℤ → ℕ → ℕ → ℕ → ℕ → ℤ
-scaledJacobian xs m a b c = pos 8 *ℤ jacobian xs m a b c
+unfoldable pub scaled_jacobian : List ℤ → ℕ → ℕ → ℕ → ℕ → ℤ
+scaled_jacobian xs m a b c = pos 8 *ℤ jacobian xs m a b c

@@ -15,8 +15,8 @@ abbrev pub base : Limits
 base = record { range = 1048576; depth = 8; nodes = 5000; elements = 1000 }
 
 -- 02, No. 8: "a record is nine words"
-abbrev pub recordWords : ℕ
-recordWords = 9
+abbrev pub record_words : ℕ
+record_words = 9
 
 -- The version of what a caller sees: 1 had records of eight words. It rises with each change of a layout, a limit or an answer.
 abbrev pub version : ℕ

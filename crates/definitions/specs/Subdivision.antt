@@ -1,7 +1,7 @@
 -- Document 01, "Cutting a cube". A cell is a cube of some level: the grid numbers of its lowest corner and its 27 coefficients, held times 8 · 64^level.
 use Rattle.std.specs.Prelude.{List, [], ◌∷◌, ℕ, zero, suc, ◌+◌, ◌*◌, ℤ, pos}
 use Rattle.foundation.specs.Polynomial.{Arithmetic, integers}
-use Rattle.foundation.specs.Lists.{concatMap, tabulate}
+use Rattle.foundation.specs.Lists.{concat_map, tabulate}
 use Rattle.definitions.specs.Jacobian.{side}
 use Rattle.definitions.specs.Coefficients.{numbered, at, coefficients}
 
@@ -13,7 +13,7 @@ row_at (suc (suc d)) c u v t = c u v t
 
 -- the nine rows of direction d
 abbrev pub rows : {A : Type 0} → ℕ → (ℕ → ℕ → ℕ → A) → List (List A)
-rows d c = concatMap (λ u. tabulate (λ v. tabulate (row_at d c u v) 0 3) 0 3) (tabulate (λ u. u) 0 3)
+rows d c = concat_map (λ u. tabulate (λ v. tabulate (row_at d c u v) 0 3) 0 3) (tabulate (λ u. u) 0 3)
 
 module _ {A : Type 0} (o : Arithmetic A) where
   infixl 6 ◌⊕◌
@@ -32,15 +32,15 @@ module _ {A : Type 0} (o : Arithmetic A) where
   upper p q r (suc (suc i)) = number (pos 4) ⊗ r
 
   -- the half on side h of the row f 0, f 1, f 2
-  abbrev pub cutRow : ℕ → (ℕ → A) → ℕ → A
-  cutRow zero f = lower (f 0) (f 1) (f 2)
-  cutRow (suc h) f = upper (f 0) (f 1) (f 2)
+  abbrev pub cut_row : ℕ → (ℕ → A) → ℕ → A
+  cut_row zero f = lower (f 0) (f 1) (f 2)
+  cut_row (suc h) f = upper (f 0) (f 1) (f 2)
 
   -- the half on side h in direction d: each of its nine rows cut
   abbrev pub cut : ℕ → ℕ → (ℕ → ℕ → ℕ → A) → ℕ → ℕ → ℕ → A
-  cut zero h c i j k = cutRow h (row_at 0 c j k) i
-  cut (suc zero) h c i j k = cutRow h (row_at 1 c i k) j
-  cut (suc (suc d)) h c i j k = cutRow h (row_at 2 c i j) k
+  cut zero h c i j k = cut_row h (row_at 0 c j k) i
+  cut (suc zero) h c i j k = cut_row h (row_at 1 c i k) j
+  cut (suc (suc d)) h c i j k = cut_row h (row_at 2 c i j) k
 
 unfoldable pub halve : ℕ → ℕ → List ℤ → List ℤ
 halve d h c = numbered (cut integers d h (at c))
@@ -69,7 +69,7 @@ whole xs = record { a = 0; b = 0; c = 0; control = coefficients xs }
 -- m levels below the given cells
 abbrev pub descend : (Cell → List Cell) → ℕ → List Cell → List Cell
 descend next zero ss = ss
-descend next (suc m) ss = concatMap next (descend next m ss)
+descend next (suc m) ss = concat_map next (descend next m ss)
 
 -- "Cubes of one level stand in path order: by the first child number, then the second, then the third."
 abbrev pub cells : List ℤ → ℕ → List Cell

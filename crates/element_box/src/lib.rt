@@ -2,7 +2,7 @@
 // numbers of 32 bits.
 ghost use Rattle.std.specs.Prelude.{◌≡◌, ◌<◌, max};
 ghost use Rattle.foundation.specs.Least.{lesser as lesserOf, larger as largerOf};
-ghost use Rattle.element_box.specs.Box.{leastTo, greatestTo, onAxis, width as width_of, extentOf};
+ghost use Rattle.element_box.specs.Box.{least_to, greatest_to, on_axis, width as width_of, extent_of};
 
 fn lesser(x: i32, y: i32) -> i32
     ensures { result ≡ lesserOf x y }
@@ -25,7 +25,7 @@ fn larger(x: i32, y: i32) -> i32
 // The least of the nodes' coordinates on axis e.
 fn least_on(p: &[i32; 24], e: usize) -> i32
     requires { e < 3 }
-    ensures { result ≡ leastTo (onAxis p.now e) 7 }
+    ensures { result ≡ least_to (on_axis p.now e) 7 }
 {
     let mut r = p[e];
     for k in 1..8 {
@@ -38,7 +38,7 @@ fn least_on(p: &[i32; 24], e: usize) -> i32
 // The greatest of them.
 fn greatest_on(p: &[i32; 24], e: usize) -> i32
     requires { e < 3 }
-    ensures { result ≡ greatestTo (onAxis p.now e) 7 }
+    ensures { result ≡ greatest_to (on_axis p.now e) 7 }
 {
     let mut r = p[e];
     for k in 1..8 {
@@ -69,7 +69,7 @@ fn wider(x: u64, y: u64) -> u64
 
 // The largest of its three widths.
 pub fn extent(p: &[i32; 24]) -> u64
-    ensures { result ≡ extentOf p.now }
+    ensures { result ≡ extent_of p.now }
 {
     let x = width(p, 0);
     let y = width(p, 1);

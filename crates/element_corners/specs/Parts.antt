@@ -10,10 +10,10 @@ use lib.IntN.{ℤ, pos}
 use Rattle.foundation.specs.Lists.{below}
 use Rattle.foundation.specs.Polynomial.{Arithmetic, integers, expressions, same, solve}
 use Rattle.foundation.specs.Words.{args}
-use Rattle.definitions.specs.Jacobian.{Nodes, nodesOf}
-use Rattle.definitions.specs.Coefficients.{edge, cornerVolume, edgeVolume, cornerTetrahedra, edgeTetrahedra}
+use Rattle.definitions.specs.Jacobian.{Nodes, nodes_of}
+use Rattle.definitions.specs.Coefficients.{edge, corner_volume, edge_volume, corner_tetrahedra, edge_tetrahedra}
 use Rattle.element_vectors.specs.Sizes.{unknowns}
-use Rattle.element_corners.specs.Edges.{cornerEdges, acrossEdges}
+use Rattle.element_corners.specs.Edges.{corner_edges, across_edges}
 
 module _ {A : Type 0} (o : Arithmetic A) where
   infixl 6 ◌⊕◌
@@ -31,36 +31,36 @@ module _ {A : Type 0} (o : Arithmetic A) where
 
   module _ (x : Nodes A) where
     -- by the nodes of a corner's three edges
-    abbrev pub alongXi : List ℕ → ℕ → A
-    alongXi t = edge o x (get_or t 0 0) (get_or t 1 0)
+    abbrev pub along_xi : List ℕ → ℕ → A
+    along_xi t = edge o x (get_or t 0 0) (get_or t 1 0)
 
     abbrev pub cofactor : List ℕ → ℕ → A
     cofactor t e = get_or (cofactors (edge o x (get_or t 2 0) (get_or t 3 0)) (edge o x (get_or t 4 0) (get_or t 5 0))) e (number (pos 0))
 
-    abbrev pub atCorner : List ℕ → A
-    atCorner t = against (alongXi t) (cofactor t)
+    abbrev pub at_corner : List ℕ → A
+    at_corner t = against (along_xi t) (cofactor t)
 
     abbrev pub between : List ℕ → List ℕ → A
-    between s t = against (λ e. alongXi s e ⊕ alongXi t e) (λ e. cofactor s e ⊕ cofactor t e)
+    between s t = against (λ e. along_xi s e ⊕ along_xi t e) (λ e. cofactor s e ⊕ cofactor t e)
 
     -- the six words of a corner
     abbrev pub parts_of : List ℕ → List A
-    parts_of t = alongXi t 0 ∷ alongXi t 1 ∷ alongXi t 2 ∷ cofactors (edge o x (get_or t 2 0) (get_or t 3 0)) (edge o x (get_or t 4 0) (get_or t 5 0))
+    parts_of t = along_xi t 0 ∷ along_xi t 1 ∷ along_xi t 2 ∷ cofactors (edge o x (get_or t 2 0) (get_or t 3 0)) (edge o x (get_or t 4 0) (get_or t 5 0))
 
 -- ---- the volumes
-abbrev cornerAgrees : ℕ → Bool
-cornerAgrees k = same (atCorner expressions unknowns (get_or cornerEdges k [])) (cornerVolume expressions unknowns (get_or cornerTetrahedra k []))
+abbrev corner_agrees : ℕ → Bool
+corner_agrees k = same (at_corner expressions unknowns (get_or corner_edges k [])) (corner_volume expressions unknowns (get_or corner_tetrahedra k []))
 
-pub corner-is : (xs : List ℤ) (k : ℕ) → k < 8 → atCorner integers (nodesOf xs) (get_or cornerEdges k []) ≡ cornerVolume integers (nodesOf xs) (get_or cornerTetrahedra k [])
-corner-is xs k h = solve (args xs) (atCorner expressions unknowns (get_or cornerEdges k [])) (cornerVolume expressions unknowns (get_or cornerTetrahedra k [])) (below cornerAgrees 8 tt k h)
+pub corner_is : (xs : List ℤ) (k : ℕ) → k < 8 → at_corner integers (nodes_of xs) (get_or corner_edges k []) ≡ corner_volume integers (nodes_of xs) (get_or corner_tetrahedra k [])
+corner_is xs k h = solve (args xs) (at_corner expressions unknowns (get_or corner_edges k [])) (corner_volume expressions unknowns (get_or corner_tetrahedra k [])) (below corner_agrees 8 tt k h)
 
 -- edge k by the corners at its ends, where it has them
-abbrev edgeAgrees : ℕ → List ℕ → Bool
-edgeAgrees k [] = true
-edgeAgrees k (i ∷ []) = true
-edgeAgrees k (i ∷ j ∷ t) = same (between expressions unknowns (get_or cornerEdges i []) (get_or cornerEdges j [])) (edgeVolume expressions unknowns (get_or edgeTetrahedra k []))
+abbrev edge_agrees : ℕ → List ℕ → Bool
+edge_agrees k [] = true
+edge_agrees k (i ∷ []) = true
+edge_agrees k (i ∷ j ∷ t) = same (between expressions unknowns (get_or corner_edges i []) (get_or corner_edges j [])) (edge_volume expressions unknowns (get_or edge_tetrahedra k []))
 
-pub between_is : (xs : List ℤ) (k i j : ℕ) → k < 12 → get_or acrossEdges k [] ≡ i ∷ j ∷ []
-    → between integers (nodesOf xs) (get_or cornerEdges i []) (get_or cornerEdges j []) ≡ edgeVolume integers (nodesOf xs) (get_or edgeTetrahedra k [])
-between_is xs k i j h e = solve (args xs) (between expressions unknowns (get_or cornerEdges i []) (get_or cornerEdges j [])) (edgeVolume expressions unknowns (get_or edgeTetrahedra k []))
-    (subst (λ t. T (edgeAgrees k t)) e (below (λ k. edgeAgrees k (get_or acrossEdges k [])) 12 tt k h))
+pub between_is : (xs : List ℤ) (k i j : ℕ) → k < 12 → get_or across_edges k [] ≡ i ∷ j ∷ []
+    → between integers (nodes_of xs) (get_or corner_edges i []) (get_or corner_edges j []) ≡ edge_volume integers (nodes_of xs) (get_or edge_tetrahedra k [])
+between_is xs k i j h e = solve (args xs) (between expressions unknowns (get_or corner_edges i []) (get_or corner_edges j [])) (edge_volume expressions unknowns (get_or edge_tetrahedra k []))
+    (subst (λ t. T (edge_agrees k t)) e (below (λ k. edge_agrees k (get_or across_edges k [])) 12 tt k h))

@@ -7,14 +7,14 @@ ghost use lib.ListN.{get_or, set, length};
 ghost use lib.IntN.{◌+ℤ◌};
 ghost use Rattle.foundation.specs.Polynomial.{integers};
 ghost use Rattle.foundation.specs.Words.{Within, args};
-ghost use Rattle.definitions.specs.Jacobian.{nodesOf};
+ghost use Rattle.definitions.specs.Jacobian.{nodes_of};
 ghost use Rattle.definitions.specs.Coefficients.{edge};
 ghost use Rattle.element_vectors.specs.Range.{Node, Extent};
 ghost use Rattle.element_vectors.specs.Vectors.{vector};
-ghost use Rattle.element_corners.specs.Edges.{cornerEdges};
+ghost use Rattle.element_corners.specs.Edges.{corner_edges};
 ghost use Rattle.element_corners.specs.Parts.{cofactors, against};
 ghost use Rattle.element_corners.specs.Laid.{Laid};
-ghost use Rattle.element_corners.specs.Sizes.{cornerExtent, partLimit};
+ghost use Rattle.element_corners.specs.Sizes.{corner_extent, part_limit};
 ghost use Rattle.element_corners.specs.Weighing.{Weighing};
 
 use element_vectors::edge;
@@ -22,7 +22,7 @@ use element_vectors::edge;
 // The edge from node a to node b, three words at a place of parts.
 fn put_edge(p: &[i32; 24], a: usize, b: usize, at: usize, parts: &mut [i64; 48])
     requires { Node a × Node b × (at + 3 ≤ 48) × (length parts.old ≡ 48) }
-    ensures { parts.new ≡ set (set (set parts.old at (edge integers (nodesOf p.now) a b 0)) (at + 1) (edge integers (nodesOf p.now) a b 1)) (at + 2) (edge integers (nodesOf p.now) a b 2) }
+    ensures { parts.new ≡ set (set (set parts.old at (edge integers (nodes_of p.now) a b 0)) (at + 1) (edge integers (nodes_of p.now) a b 1)) (at + 2) (edge integers (nodes_of p.now) a b 2) }
 {
     let x = edge(p, a, b, 0);
     let y = edge(p, a, b, 1);
@@ -43,7 +43,7 @@ fn put_cofactors(
     at: usize,
     parts: &mut [i64; 48],
 )
-    requires fact_1 { Within cornerExtent (vx ∷ vy ∷ vz ∷ wx ∷ wy ∷ wz ∷ []) }
+    requires fact_1 { Within corner_extent (vx ∷ vy ∷ vz ∷ wx ∷ wy ∷ wz ∷ []) }
     requires fact_2 { (at + 3 ≤ 48) × (length parts.old ≡ 48) }
     ensures { parts.new ≡ set (set (set parts.old at (args (cofactors integers (vector vx vy vz) (vector wx wy wz)) 0)) (at + 1) (args (cofactors integers (vector vx vy vz) (vector wx wy wz)) 1)) (at + 2) (args (cofactors integers (vector vx vy vz) (vector wx wy wz)) 2) }
 {
@@ -68,8 +68,8 @@ pub fn put_parts(
     parts: &mut [i64; 48],
 )
     requires node_1 { Node a × Node b × Node c × Node d × Node e × Node f }
-    requires node_2 { (k < 8) × (get_or cornerEdges k [] ≡ a ∷ b ∷ c ∷ d ∷ e ∷ f ∷ []) }
-    requires extent_1 { Extent cornerExtent p.now }
+    requires node_2 { (k < 8) × (get_or corner_edges k [] ≡ a ∷ b ∷ c ∷ d ∷ e ∷ f ∷ []) }
+    requires extent_1 { Extent corner_extent p.now }
     requires extent_2 { Laid p.now k parts.old }
     ensures { Laid p.now (k + 1) parts.new }
 {
@@ -88,7 +88,7 @@ pub fn put_parts(
 
 // The sum of two parts.
 pub fn sum(parts: &[i64; 48], s: usize, t: usize) -> i64
-    requires { (s < 48) × (t < 48) × Within partLimit (args parts.now s ∷ args parts.now t ∷ []) }
+    requires { (s < 48) × (t < 48) × Within part_limit (args parts.now s ∷ args parts.now t ∷ []) }
     ensures { result ≡ args parts.now s +ℤ args parts.now t }
 {
     parts[s] + parts[t]

@@ -8,16 +8,16 @@ pub data Sort : Type 0 where
   shorter : Sort
 
 -- the most that the first vector's coordinates may be, and the most that the others' may be
-abbrev pub firstLimit : Sort → ℕ
-firstLimit alike = 2 ^ 18
-firstLimit shorter = 2 ^ 11
+abbrev pub first_limit : Sort → ℕ
+first_limit alike = 2 ^ 18
+first_limit shorter = 2 ^ 11
 
-abbrev pub otherLimit : Sort → ℕ
-otherLimit alike = 2 ^ 18
-otherLimit shorter = 2 ^ 22
+abbrev pub other_limit : Sort → ℕ
+other_limit alike = 2 ^ 18
+other_limit shorter = 2 ^ 22
 
 pub record Fitting (u v w : List ℤ) : Type 0 where
   pub sort : Sort
-  pub first : Within (firstLimit sort) u
-  pub second : Within (otherLimit sort) v
-  pub third : Within (otherLimit sort) w
+  pub first : Within (first_limit sort) u
+  pub second : Within (other_limit sort) v
+  pub third : Within (other_limit sort) w

@@ -2,9 +2,9 @@
 use Rattle.std.specs.Prelude.{List, [], ◌∷◌, ◌++◌, ℕ, ◌+◌, ◌*◌, ◌≤◌, ℤ, nat_abs}
 use Rattle.std.proofs.Common.{le_trans, mul-add, arith}
 use Rattle.foundation.specs.Polynomial.{Expr, var, integers, expressions, eval}
-use Rattle.foundation.specs.Bound.{bound, bound-is}
-use Rattle.foundation.specs.Words.{args, split, within-split}
-use Rattle.definitions.specs.Jacobian.{Nodes, nodesOf, det}
+use Rattle.foundation.specs.Bound.{bound, bound_is}
+use Rattle.foundation.specs.Words.{args, split, within_split}
+use Rattle.definitions.specs.Jacobian.{Nodes, nodes_of, det}
 use Rattle.definitions.specs.Coefficients.{edge, middle}
 use Rattle.element_vectors.specs.Range.{InRange}
 
@@ -15,23 +15,23 @@ unknowns k e = var (3 * k + e)
 module _ {range : ℕ} {xs : List ℤ} (h : InRange range xs) where
   -- of any formula over the coordinates
   pub bounded : (f : Expr) → nat_abs (eval (args xs) f) ≤ bound (λ _. range) f
-  bounded = bound-is (args xs) (λ _. range) h.small
+  bounded = bound_is (args xs) (λ _. range) h.small
 
-  pub edge-small : (a b e : ℕ) → nat_abs (edge integers (nodesOf xs) a b e) ≤ 2 * range
-  edge-small a b e = le_trans (bounded (edge expressions unknowns a b e)) twice
+  pub edge_small : (a b e : ℕ) → nat_abs (edge integers (nodes_of xs) a b e) ≤ 2 * range
+  edge_small a b e = le_trans (bounded (edge expressions unknowns a b e)) twice
     where
       twice : range + range ≤ 2 * range
       twice = omega arith
 
-  pub middle-small : (a b c e : ℕ) → nat_abs (middle integers (nodesOf xs) a b c e) ≤ 4 * range
-  middle-small a b c e = le_trans (bounded (middle expressions unknowns a b c e)) four-times
+  pub middle_small : (a b c e : ℕ) → nat_abs (middle integers (nodes_of xs) a b c e) ≤ 4 * range
+  middle_small a b c e = le_trans (bounded (middle expressions unknowns a b c e)) four_times
     where
-      four-times : range + range + (range + range) ≤ 4 * range
-      four-times = omega arith
+      four_times : range + range + (range + range) ≤ 4 * range
+      four_times = omega arith
 
-pub det-small : (b c : ℕ) (u v w : ℕ → ℤ) → ((e : ℕ) → nat_abs (u e) ≤ b) → ((e : ℕ) → nat_abs (v e) ≤ c) → ((e : ℕ) → nat_abs (w e) ≤ c) → nat_abs (det integers u v w) ≤ 6 * (b * (c * c))
-det-small b c u v w h k l = le_trans (bound-is (args (first ++ others)) (split 3 b c)
-    (within-split b c first others (h 0, (h 1, (h 2, tt))) (k 0, (k 1, (k 2, (l 0, (l 1, (l 2, tt)))))))
+pub det_small : (b c : ℕ) (u v w : ℕ → ℤ) → ((e : ℕ) → nat_abs (u e) ≤ b) → ((e : ℕ) → nat_abs (v e) ≤ c) → ((e : ℕ) → nat_abs (w e) ≤ c) → nat_abs (det integers u v w) ≤ 6 * (b * (c * c))
+det_small b c u v w h k l = le_trans (bound_is (args (first ++ others)) (split 3 b c)
+    (within_split b c first others (h 0, (h 1, (h 2, tt))) (k 0, (k 1, (k 2, (l 0, (l 1, (l 2, tt)))))))
     (det expressions (λ e. var e) (λ e. var (3 + e)) (λ e. var (6 + e)))) six
   where
     first : List ℤ

@@ -13,8 +13,8 @@ module _ (z : ℤ) (h : mag z < widest) where
   narrow : SFits w32 z
   narrow = record { sfits = h }
 
-  pub widened-fits : SFits w64 (to_z w32 (of_z w32 z))
-  widened-fits = subst (SFits w64) (sym (to_z-of_z narrow)) (sfits_widen tt narrow)
+  pub widened_fits : SFits w64 (to_z w32 (of_z w32 z))
+  widened_fits = subst (SFits w64) (sym (to_z-of_z narrow)) (sfits_widen tt narrow)
 
   pub widened : to_z w64 (of_z w64 (to_z w32 (of_z w32 z))) ≡ z
-  widened = to_z-of_z widened-fits ∙ to_z-of_z narrow
+  widened = to_z-of_z widened_fits ∙ to_z-of_z narrow

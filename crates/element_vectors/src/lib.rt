@@ -2,7 +2,7 @@
 // volumes. Nodes go by their numbers, 1 to 8; coordinates may be any numbers of 32 bits.
 ghost use Rattle.std.specs.Prelude.{◌≡◌, [], ◌∷◌, ◌+◌, ◌-◌, ◌<◌, ◌≤◌, nat_abs};
 ghost use Rattle.foundation.specs.Polynomial.{integers};
-ghost use Rattle.definitions.specs.Jacobian.{nodesOf, det};
+ghost use Rattle.definitions.specs.Jacobian.{nodes_of, det};
 ghost use Rattle.definitions.specs.Coefficients.{edge, middle};
 ghost use Rattle.element_vectors.specs.Fitting.{Fitting};
 ghost use Rattle.element_vectors.specs.Range.{Node};
@@ -12,7 +12,7 @@ ghost use Rattle.element_vectors.specs.Widened.{widest};
 // Node a's coordinate on axis e.
 fn coordinate(p: &[i32; 24], a: usize, e: usize) -> i64
     requires { Node a × (e < 3) }
-    ensures { (result ≡ nodesOf p.now (a - 1) e) × (nat_abs (nodesOf p.now (a - 1) e) ≤ widest) }
+    ensures { (result ≡ nodes_of p.now (a - 1) e) × (nat_abs (nodes_of p.now (a - 1) e) ≤ widest) }
 {
     p[3 * (a - 1) + e] as i64
 }
@@ -20,7 +20,7 @@ fn coordinate(p: &[i32; 24], a: usize, e: usize) -> i64
 // The difference of two nodes' coordinates on axis e.
 fn difference(p: &[i32; 24], a: usize, b: usize, e: usize) -> i64
     requires { Node a × Node b × (e < 3) }
-    ensures { (result ≡ edge integers (nodesOf p.now) a b e) × (nat_abs (edge integers (nodesOf p.now) a b e) ≤ widest + widest) }
+    ensures { (result ≡ edge integers (nodes_of p.now) a b e) × (nat_abs (edge integers (nodes_of p.now) a b e) ≤ widest + widest) }
 {
     coordinate(p, b, e) - coordinate(p, a, e)
 }
@@ -28,7 +28,7 @@ fn difference(p: &[i32; 24], a: usize, b: usize, e: usize) -> i64
 // From node a to node b on axis e.
 pub fn edge(p: &[i32; 24], a: usize, b: usize, e: usize) -> i64
     requires { Node a × Node b × (e < 3) }
-    ensures { result ≡ edge integers (nodesOf p.now) a b e }
+    ensures { result ≡ edge integers (nodes_of p.now) a b e }
 {
     difference(p, a, b, e)
 }
@@ -36,7 +36,7 @@ pub fn edge(p: &[i32; 24], a: usize, b: usize, e: usize) -> i64
 // From node a to the middle of nodes b and c on axis e, twice.
 pub fn middle(p: &[i32; 24], a: usize, b: usize, c: usize, e: usize) -> i64
     requires { Node a × Node b × Node c × (e < 3) }
-    ensures { result ≡ middle integers (nodesOf p.now) a b c e }
+    ensures { result ≡ middle integers (nodes_of p.now) a b c e }
 {
     difference(p, a, b, e) + difference(p, a, c, e)
 }

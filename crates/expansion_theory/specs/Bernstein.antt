@@ -15,26 +15,26 @@ module _ {A : Type 0} (o : Arithmetic A) where
   bernstein w d (suc (suc i)) = w d 1 ⊗ w d 1
 
   -- a row of three against the functions of direction d
-  abbrev pub rowValue : Weights A → ℕ → (ℕ → A) → A
-  rowValue w d f = bernstein w d 0 ⊗ f 0 ⊕ (bernstein w d 1 ⊗ f 1 ⊕ bernstein w d 2 ⊗ f 2)
+  abbrev pub row_value : Weights A → ℕ → (ℕ → A) → A
+  row_value w d f = bernstein w d 0 ⊗ f 0 ⊕ (bernstein w d 1 ⊗ f 1 ⊕ bernstein w d 2 ⊗ f 2)
 
   -- the 27 numbers c i j k against the products, direction by direction
   abbrev pub value : (ℕ → ℕ → ℕ → A) → Weights A → A
-  value c w = rowValue w 0 (λ i. rowValue w 1 (λ j. rowValue w 2 (λ k. c i j k)))
+  value c w = row_value w 0 (λ i. row_value w 1 (λ j. row_value w 2 (λ k. c i j k)))
 
 -- ---- over expressions: at most 27 variables, here the numbers by place, and then the weights
-abbrev pub placeVar : ℕ → ℕ → ℕ → Expr
-placeVar i j k = var (9 * i + 3 * j + k)
+abbrev pub place_var : ℕ → ℕ → ℕ → Expr
+place_var i j k = var (9 * i + 3 * j + k)
 
-abbrev pub byPlace : (ℕ → ℕ → ℕ → ℤ) → ℕ → ℤ
-byPlace c p = c (p / 9) (p / 3 % 3) (p % 3)
+abbrev pub by_place : (ℕ → ℕ → ℕ → ℤ) → ℕ → ℤ
+by_place c p = c (p / 9) (p / 3 % 3) (p % 3)
 
-abbrev pub weightVar : Weights Expr
-weightVar d s = var (27 + (2 * d + s))
+abbrev pub weight_var : Weights Expr
+weight_var d s = var (27 + (2 * d + s))
 
 abbrev pub weighted : (ℕ → ℤ) → Weights ℤ → ℕ → ℤ
 weighted ρ w n = elim (ltb n 27) [ true ↦ ρ n | false ↦ w ((n - 27) / 2) ((n - 27) % 2) ]
 
 -- the sum has degree 6 in the weights
-pub value-twice : (c : ℕ → ℕ → ℕ → ℤ) (w : Weights ℤ) → value integers c (λ d s. pos 2 *ℤ w d s) ≡ pos 64 *ℤ value integers c w
-value-twice c w = solve (weighted (byPlace c) w) (value expressions placeVar (λ d s. mul (con (pos 2)) (weightVar d s))) (mul (con (pos 64)) (value expressions placeVar weightVar)) tt
+pub value_twice : (c : ℕ → ℕ → ℕ → ℤ) (w : Weights ℤ) → value integers c (λ d s. pos 2 *ℤ w d s) ≡ pos 64 *ℤ value integers c w
+value_twice c w = solve (weighted (by_place c) w) (value expressions place_var (λ d s. mul (con (pos 2)) (weight_var d s))) (mul (con (pos 64)) (value expressions place_var weight_var)) tt

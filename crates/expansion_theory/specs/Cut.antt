@@ -4,39 +4,39 @@ use Rattle.foundation.specs.Polynomial.{Arithmetic, Expr, integers, expressions,
 use Rattle.definitions.specs.Jacobian.{Weights}
 use Rattle.definitions.specs.Coefficients.{numbered, at}
 use Rattle.definitions.specs.Subdivision.{cut, halve}
-use Rattle.expansion_theory.specs.Bernstein.{value, placeVar, byPlace, weightVar, weighted}
-use Rattle.expansion_theory.specs.Numbering.{length-numbered}
-use Rattle.expansion_theory.specs.Parts.{partRow, three}
+use Rattle.expansion_theory.specs.Bernstein.{value, place_var, by_place, weight_var, weighted}
+use Rattle.expansion_theory.specs.Numbering.{length_numbered}
+use Rattle.expansion_theory.specs.Parts.{part_row, three}
 
-pub length-halve : (d h : ℕ) (c : List ℤ) → length (halve d h c) ≡ 27
+pub length_halve : (d h : ℕ) (c : List ℤ) → length (halve d h c) ≡ 27
 unfolding halve
-length-halve d h c = length-numbered (cut integers d h (at c))
+length_halve d h c = length_numbered (cut integers d h (at c))
 
 -- the same point, as one of the half and as one of the whole
 module _ {A : Type 0} (o : Arithmetic A) where
-  abbrev pub halfRow : ℕ → (ℕ → A) → ℕ → A
-  halfRow zero u = partRow o 2 0 u
-  halfRow (suc h) u = partRow o 2 1 u
+  abbrev pub half_row : ℕ → (ℕ → A) → ℕ → A
+  half_row zero u = part_row o 2 0 u
+  half_row (suc h) u = part_row o 2 1 u
 
-  abbrev pub halfView : ℕ → ℕ → Weights A → Weights A
-  halfView zero h w = three (halfRow h (w 0)) (w 1) (w 2)
-  halfView (suc zero) h w = three (w 0) (halfRow h (w 1)) (w 2)
-  halfView (suc (suc d)) h w = three (w 0) (w 1) (halfRow h (w 2))
+  abbrev pub half_view : ℕ → ℕ → Weights A → Weights A
+  half_view zero h w = three (half_row h (w 0)) (w 1) (w 2)
+  half_view (suc zero) h w = three (w 0) (half_row h (w 1)) (w 2)
+  half_view (suc (suc d)) h w = three (w 0) (w 1) (half_row h (w 2))
 
-abbrev cutExpr : ℕ → ℕ → Expr
-cutExpr d h = value expressions (cut expressions d h placeVar) weightVar
+abbrev cut_expr : ℕ → ℕ → Expr
+cut_expr d h = value expressions (cut expressions d h place_var) weight_var
 
-abbrev halfExpr : ℕ → ℕ → Expr
-halfExpr d h = value expressions placeVar (halfView expressions d h weightVar)
+abbrev half_expr : ℕ → ℕ → Expr
+half_expr d h = value expressions place_var (half_view expressions d h weight_var)
 
-cut-value : (d h : ℕ) (c : ℕ → ℕ → ℕ → ℤ) (w : Weights ℤ) → value integers (cut integers d h c) w ≡ value integers c (halfView integers d h w)
-cut-value zero zero c w = solve (weighted (byPlace c) w) (cutExpr 0 0) (halfExpr 0 0) tt
-cut-value zero (suc h) c w = solve (weighted (byPlace c) w) (cutExpr 0 1) (halfExpr 0 1) tt
-cut-value (suc zero) zero c w = solve (weighted (byPlace c) w) (cutExpr 1 0) (halfExpr 1 0) tt
-cut-value (suc zero) (suc h) c w = solve (weighted (byPlace c) w) (cutExpr 1 1) (halfExpr 1 1) tt
-cut-value (suc (suc d)) zero c w = solve (weighted (byPlace c) w) (cutExpr 2 0) (halfExpr 2 0) tt
-cut-value (suc (suc d)) (suc h) c w = solve (weighted (byPlace c) w) (cutExpr 2 1) (halfExpr 2 1) tt
+cut_value : (d h : ℕ) (c : ℕ → ℕ → ℕ → ℤ) (w : Weights ℤ) → value integers (cut integers d h c) w ≡ value integers c (half_view integers d h w)
+cut_value zero zero c w = solve (weighted (by_place c) w) (cut_expr 0 0) (half_expr 0 0) tt
+cut_value zero (suc h) c w = solve (weighted (by_place c) w) (cut_expr 0 1) (half_expr 0 1) tt
+cut_value (suc zero) zero c w = solve (weighted (by_place c) w) (cut_expr 1 0) (half_expr 1 0) tt
+cut_value (suc zero) (suc h) c w = solve (weighted (by_place c) w) (cut_expr 1 1) (half_expr 1 1) tt
+cut_value (suc (suc d)) zero c w = solve (weighted (by_place c) w) (cut_expr 2 0) (half_expr 2 0) tt
+cut_value (suc (suc d)) (suc h) c w = solve (weighted (by_place c) w) (cut_expr 2 1) (half_expr 2 1) tt
 
-pub halve-value : (d h : ℕ) (c : List ℤ) (w : Weights ℤ) → value integers (at (halve d h c)) w ≡ value integers (at c) (halfView integers d h w)
+pub halve_value : (d h : ℕ) (c : List ℤ) (w : Weights ℤ) → value integers (at (halve d h c)) w ≡ value integers (at c) (half_view integers d h w)
 unfolding halve numbered at
-halve-value d h c w = cut-value d h (at c) w
+halve_value d h c w = cut_value d h (at c) w

@@ -3,10 +3,10 @@
 use Rattle.std.specs.Prelude.{◌≡◌, refl, Bool, List, [], ◌∷◌, map, ℕ, zero, suc, ◌+◌, ◌*◌, ◌-◌, ◌/◌, ◌%◌, T, get_or, ℤ, pos, ◌+ℤ◌, ◌*ℤ◌}
 use Rattle.std.proofs.Common.{sym, ◌∙◌, ap}
 use Rattle.foundation.specs.Polynomial.{Arithmetic, Expr, var, con, mul, integers, expressions, eval, same, solve}
-use Rattle.foundation.specs.Lists.{tabulate-cong, all_below, below}
-use Rattle.definitions.specs.Jacobian.{Nodes, Weights, nodesOf, det, J}
+use Rattle.foundation.specs.Lists.{tabulate_cong, all_below, below}
+use Rattle.definitions.specs.Jacobian.{Nodes, Weights, nodes_of, det, J}
 use Rattle.definitions.specs.Coefficients.{numbering, place, numbered, volumes, row, dot, coefficients}
-use Rattle.expansion_theory.specs.Bernstein.{value, weightVar, weighted}
+use Rattle.expansion_theory.specs.Bernstein.{value, weight_var, weighted}
 
 -- the corner with sides i, j, k
 abbrev corner : ℕ → ℕ → ℕ → ℕ
@@ -39,37 +39,37 @@ module _ {A : Type 0} (o : Arithmetic A) (x : Nodes A) where
       det o (edge 0 (argument j s) (argument k t)) (edge 1 (argument i r) (argument k (1 - t))) (edge 2 (argument i (1 - r)) (argument j (1 - s))))))
 
 -- ---- over expressions in the coordinates, in place order
-abbrev pub nodeVar : Nodes Expr
-nodeVar k e = var (3 * k + e)
+abbrev pub node_var : Nodes Expr
+node_var k e = var (3 * k + e)
 
 abbrev pub coordinate : List ℤ → ℕ → ℤ
 coordinate xs i = get_or xs i (pos 0)
 
 -- against the Bernstein products the polar form is 8 J
-pub polar-value : (x : Nodes ℤ) (w : Weights ℤ) → value integers (polar integers x) w ≡ pos 8 *ℤ J integers x w
-polar-value x w = solve (weighted (λ n. x (n / 3) (n % 3)) w) (value expressions (polar expressions nodeVar) weightVar) (mul (con (pos 8)) (J expressions nodeVar weightVar)) tt
+pub polar_value : (x : Nodes ℤ) (w : Weights ℤ) → value integers (polar integers x) w ≡ pos 8 *ℤ J integers x w
+polar_value x w = solve (weighted (λ n. x (n / 3) (n % 3)) w) (value expressions (polar expressions node_var) weight_var) (mul (con (pos 8)) (J expressions node_var weight_var)) tt
 
 -- ---- the table makes the polar form from the twenty volumes
-eval-dot : (ρ : ℕ → ℤ) (cs : List ℤ) (es : List Expr) → eval ρ (dot expressions cs es) ≡ dot integers cs (map (eval ρ) es)
-eval-dot ρ [] es = refl
-eval-dot ρ (c ∷ cs) [] = refl
-eval-dot ρ (c ∷ cs) (e ∷ es) = ap (λ (t : ℤ). c *ℤ eval ρ e +ℤ t) (eval-dot ρ cs es)
+eval_dot : (ρ : ℕ → ℤ) (cs : List ℤ) (es : List Expr) → eval ρ (dot expressions cs es) ≡ dot integers cs (map (eval ρ) es)
+eval_dot ρ [] es = refl
+eval_dot ρ (c ∷ cs) [] = refl
+eval_dot ρ (c ∷ cs) (e ∷ es) = ap (λ (t : ℤ). c *ℤ eval ρ e +ℤ t) (eval_dot ρ cs es)
 
 -- row n against the volumes, and the polar form at coefficient n's place: one test for all 27
-abbrev fromTable : ℕ → Expr
-fromTable n = dot expressions (row n) (volumes expressions nodeVar)
+abbrev from_table : ℕ → Expr
+from_table n = dot expressions (row n) (volumes expressions node_var)
 
 abbrev pub at_place : {A : Type 0} → (ℕ → ℕ → ℕ → A) → ℕ → A
 at_place f n = let corners = get_or numbering n [] in f (place 0 corners) (place 1 corners) (place 2 corners)
 
-abbrev rowAgrees : ℕ → Bool
-rowAgrees n = same (fromTable n) (at_place (polar expressions nodeVar) n)
+abbrev row_agrees : ℕ → Bool
+row_agrees n = same (from_table n) (at_place (polar expressions node_var) n)
 
-rows_agree : T (all_below 27 rowAgrees)
+rows_agree : T (all_below 27 row_agrees)
 rows_agree = tt
 
-pub coefficients-polar : (xs : List ℤ) → coefficients xs ≡ numbered (polar integers (nodesOf xs))
+pub coefficients_polar : (xs : List ℤ) → coefficients xs ≡ numbered (polar integers (nodes_of xs))
 unfolding coefficients numbered
-coefficients-polar xs = tabulate-cong (λ n. dot integers (row n) (volumes integers (nodesOf xs))) (at_place (polar integers (nodesOf xs))) 0 27
-    (λ n h. sym (eval-dot (coordinate xs) (row n) (volumes expressions nodeVar))
-    ∙ solve (coordinate xs) (fromTable n) (at_place (polar expressions nodeVar) n) (below rowAgrees 27 rows_agree n h))
+coefficients_polar xs = tabulate_cong (λ n. dot integers (row n) (volumes integers (nodes_of xs))) (at_place (polar integers (nodes_of xs))) 0 27
+    (λ n h. sym (eval_dot (coordinate xs) (row n) (volumes expressions node_var))
+    ∙ solve (coordinate xs) (from_table n) (at_place (polar expressions node_var) n) (below row_agrees 27 rows_agree n h))

@@ -4,7 +4,7 @@ use Rattle.std.proofs.Common.{◌∙◌, arith}
 use Rattle.std.proofs.Math.ListN.{get_or-map}
 use Rattle.foundation.specs.Polynomial.{Expr, var, con, eval, same, solve}
 use Rattle.foundation.specs.Lists.{all_below, below}
-use Rattle.definitions.specs.Coefficients.{cornerNumbers, edgeNumbers, numbering, place, numbered, numbers, at, table}
+use Rattle.definitions.specs.Coefficients.{corner_numbers, edge_numbers, numbering, place, numbered, numbers, at, table}
 
 -- ---- the rule of an entry
 abbrev pub member : ℕ → List ℕ → Bool
@@ -17,16 +17,16 @@ within (n ∷ ns) ms = elim (member n ms) [ true ↦ within ns ms | false ↦ fa
 
 -- "corner = its J; edge = 2·(J at its middle) − half the sum of its two corner values; face = sum of its four edge-middle values − 3/4 of the sum of its four corner values;
 -- centre = half the sum of the twelve edge-middle values − 5/8 of the sum of the eight corner values": times 8, edge values in quarters, by the number of corners that it lies between.
-abbrev pub cornerShare : ℕ → ℤ
-cornerShare n = elim (eqb n 1) [ true ↦ pos 8 | false ↦ elim (eqb n 2) [ true ↦ negsuc 3 | false ↦ elim (eqb n 4) [ true ↦ negsuc 5 | false ↦ negsuc 4 ] ] ]
+abbrev pub corner_share : ℕ → ℤ
+corner_share n = elim (eqb n 1) [ true ↦ pos 8 | false ↦ elim (eqb n 2) [ true ↦ negsuc 3 | false ↦ elim (eqb n 4) [ true ↦ negsuc 5 | false ↦ negsuc 4 ] ] ]
 
-abbrev pub edgeShare : ℕ → ℤ
-edgeShare n = elim (eqb n 2) [ true ↦ pos 4 | false ↦ elim (eqb n 4) [ true ↦ pos 2 | false ↦ pos 1 ] ]
+abbrev pub edge_share : ℕ → ℤ
+edge_share n = elim (eqb n 2) [ true ↦ pos 4 | false ↦ elim (eqb n 4) [ true ↦ pos 2 | false ↦ pos 1 ] ]
 
 -- row n is coefficient n's, column j the volume's of corner or edge j: 0 unless all that the volume lies between is among what the coefficient lies between
 abbrev pub rule : ℕ → ℕ → ℤ
-rule n j = let row = get_or numbering n [] in let column = get_or (cornerNumbers ++ edgeNumbers) j [] in
-    elim (within column row) [ false ↦ pos 0 | true ↦ elim (eqb (length column) 1) [ true ↦ cornerShare (length row) | false ↦ edgeShare (length row) ] ]
+rule n j = let row = get_or numbering n [] in let column = get_or (corner_numbers ++ edge_numbers) j [] in
+    elim (within column row) [ false ↦ pos 0 | true ↦ elim (eqb (length column) 1) [ true ↦ corner_share (length row) | false ↦ edge_share (length row) ] ]
 
 abbrev entry : ℕ → ℕ → ℤ
 entry n j = get_or table (20 * n + j) (pos 0)
@@ -34,26 +34,26 @@ entry n j = get_or table (20 * n + j) (pos 0)
 abbrev ruled : ℕ → ℕ → Bool
 ruled n j = same (con (entry n j)) (con (rule n j))
 
-pub table-rule : (n j : ℕ) → n < 27 → j < 20 → get_or table (20 * n + j) (pos 0) ≡ rule n j
-table-rule n j hn hj = solve (λ i. pos 0) (con (entry n j)) (con (rule n j)) (below (ruled n) 20 (below (λ n. all_below 20 (ruled n)) 27 tt n hn) j hj)
+pub table_rule : (n j : ℕ) → n < 27 → j < 20 → get_or table (20 * n + j) (pos 0) ≡ rule n j
+table_rule n j hn hj = solve (λ i. pos 0) (con (entry n j)) (con (rule n j)) (below (ruled n) 20 (below (λ n. all_below 20 (ruled n)) 27 tt n hn) j hj)
 
 -- ---- the numbers by place
 abbrev placed : List Expr
 placed = map (λ corners. var (9 * place 0 corners + 3 * place 1 corners + place 2 corners)) numbering
 
-abbrev numberedBack : ℕ → Bool
-numberedBack p = same (get_or placed (get_or numbers p 0) (con (pos 0))) (var p)
+abbrev numbered_back : ℕ → Bool
+numbered_back p = same (get_or placed (get_or numbers p 0) (con (pos 0))) (var p)
 
-pub at-numbered : (f : ℕ → ℕ → ℕ → ℤ) (i j k : ℕ) → i < 3 → j < 3 → k < 3 → at (numbered f) i j k ≡ f i j k
+pub at_numbered : (f : ℕ → ℕ → ℕ → ℤ) (i j k : ℕ) → i < 3 → j < 3 → k < 3 → at (numbered f) i j k ≡ f i j k
 unfolding at numbered
-at-numbered f i j k hi hj hk = get_or-map (eval byPlace) placed (get_or numbers p 0) (con (pos 0)) ∙ solve byPlace (get_or placed (get_or numbers p 0) (con (pos 0))) (var p) (below numberedBack 27 tt p (omega arith))
+at_numbered f i j k hi hj hk = get_or-map (eval by_place) placed (get_or numbers p 0) (con (pos 0)) ∙ solve by_place (get_or placed (get_or numbers p 0) (con (pos 0))) (var p) (below numbered_back 27 tt p (omega arith))
     ∙ (λ t. f (first t) (second t) (third t))
   where
     p : ℕ
     p = 9 * i + 3 * j + k
 
-    byPlace : ℕ → ℤ
-    byPlace q = f (q / 9) (q / 3 % 3) (q % 3)
+    by_place : ℕ → ℤ
+    by_place q = f (q / 9) (q / 3 % 3) (q % 3)
 
     first : p / 9 ≡ i
     first = omega arith

@@ -1,10 +1,10 @@
 // The function that makes a child, of both widths of number, under names that the tests beside the second program can call. An inner crate: no
 // library that is handed out has it, and its callers meet what each `requires` asks.
 ghost use Rattle.std.specs.Prelude.{◌≡◌, [], ◌∷◌, ◌<◌, length, pos};
-ghost use Rattle.foundation.specs.Least.{leastOf};
-ghost use Rattle.definitions.specs.Eighths.{leastNumber};
+ghost use Rattle.foundation.specs.Least.{least_of};
+ghost use Rattle.definitions.specs.Eighths.{least_number};
 ghost use Rattle.definitions.specs.TwoWords.{low_word, high_word};
-ghost use Rattle.verdict_theory.specs.Clear.{childControl};
+ghost use Rattle.verdict_theory.specs.Clear.{child_control};
 ghost use Rattle.search_theory.specs.Meaning.{Small};
 ghost use Rattle.narrow_rows.specs.Word.{largest};
 ghost use Rattle.wide_array.specs.Values.{values};
@@ -19,8 +19,8 @@ pub extern "C" fn inner_narrow_eighth(
     told: &mut [i64; 2],
 )
     requires { Small largest g.now 1 × (k < 8) × (length out.old ≡ 27) }
-    ensures out_after { out.new ≡ childControl g.now k }
-    ensures told_after { told.new ≡ leastOf (childControl g.now k) ∷ pos (leastNumber (childControl g.now k)) ∷ [] }
+    ensures out_after { out.new ≡ child_control g.now k }
+    ensures told_after { told.new ≡ least_of (child_control g.now k) ∷ pos (least_number (child_control g.now k)) ∷ [] }
 {
     let mut half = [0i64; 27];
     let mut quarter = [0i64; 27];
@@ -34,8 +34,8 @@ pub extern "C" fn inner_narrow_eighth(
 #[unsafe(no_mangle)]
 pub extern "C" fn inner_wide_eighth(g: &[u64; 54], k: u32, out: &mut [u64; 54], told: &mut [u64; 3])
     requires { Small widest (values g.now) 1 × (k < 8) × (length out.old ≡ 54) }
-    ensures out_after { (values out.new ≡ childControl (values g.now) k) × (length out.new ≡ 54) }
-    ensures told_after { told.new ≡ low_word (leastOf (childControl (values g.now) k)) ∷ high_word (leastOf (childControl (values g.now) k)) ∷ leastNumber (childControl (values g.now) k) ∷ [] }
+    ensures out_after { (values out.new ≡ child_control (values g.now) k) × (length out.new ≡ 54) }
+    ensures told_after { told.new ≡ low_word (least_of (child_control (values g.now) k)) ∷ high_word (least_of (child_control (values g.now) k)) ∷ least_number (child_control (values g.now) k) ∷ [] }
 {
     let mut half = [0u64; 54];
     let mut quarter = [0u64; 54];

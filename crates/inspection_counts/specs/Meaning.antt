@@ -4,10 +4,10 @@ use Rattle.inspection_counts.specs.declared.Counts.{Counts as HeldCounts}
 use Rattle.inspection_counts.specs.declared.Stamp.{Stamp as HeldStamp}
 use Rattle.inspection_counts.specs.declared.Stamp.TheVariants.{Sound, Faulty, Open}
 
-abbrev pub countsHeld : HeldCounts → Counts
-countsHeld n = record { valid = n.valid; invalid = n.invalid; undecided = n.undecided; refused = n.refused }
+abbrev pub counts_held : HeldCounts → Counts
+counts_held n = record { valid = n.valid; invalid = n.invalid; undecided = n.undecided; refused = n.refused }
 
-abbrev pub stampHeld : HeldStamp → Stamp
-stampHeld Sound = sound
-stampHeld Faulty = faulty
-stampHeld Open = «open»
+abbrev pub stamp_held : HeldStamp → Stamp
+stamp_held Sound = sound
+stamp_held Faulty = faulty
+stamp_held Open = «open»

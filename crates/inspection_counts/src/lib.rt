@@ -3,8 +3,8 @@
 //   stamp_of       the stamp of an accepted mesh, by its counts
 // The inspections that answer with counts are in the crates `inspector` and `auditor`.
 ghost use Rattle.std.specs.Prelude.{◌≡◌};
-ghost use Rattle.definitions.specs.Mesh.{stampOf};
-ghost use Rattle.inspection_counts.specs.Meaning.{countsHeld, stampHeld};
+ghost use Rattle.definitions.specs.Mesh.{stamp_of};
+ghost use Rattle.inspection_counts.specs.Meaning.{counts_held, stamp_held};
 
 // The number of records of each kind.
 #[derive(Drop)]
@@ -25,7 +25,7 @@ pub enum Stamp {
 
 // The stamp of an accepted mesh, by its counts. An answer that refuses a mesh holds no counts, so a refused mesh has no stamp.
 pub fn stamp_of(n: Counts) -> Stamp
-    ensures { stampHeld result ≡ stampOf (countsHeld n) }
+    ensures { stamp_held result ≡ stamp_of (counts_held n) }
 {
     if (0 < n.valid) & (n.invalid == 0) & (n.undecided == 0) & (n.refused == 0) {
         return Stamp::Sound;

@@ -8,13 +8,13 @@ use borrow.Author.Tests.{leb-true}
 use lib.Dec.{leb}
 use lib.ListN.{get_or, length, take, drop, length-take, length-drop, drop_of_length-le}
 use lib.Seq.{drop-drop, take_all}
-use Rattle.foundation.specs.Lists.{drop-next, sum}
-use Rattle.lot_format.specs.Format.{Group, GR, entryBytes, elementEntries, groupedEntries}
+use Rattle.foundation.specs.Lists.{drop_next, sum}
+use Rattle.lot_format.specs.Format.{Group, GR, entry_bytes, element_entries, grouped_entries}
 use Rattle.lot_format.specs.Runs.{groups_of}
-use Rattle.lot_format.specs.Groups.{rising, allUpTo}
-use Rattle.lot_format.specs.RunLaws.{total-next}
-use Rattle.lot_format.specs.Lawful.{rising-low, rising-high, rising-rest}
-use Rattle.lot_roundtrip_theory.specs.Tests.{true-both}
+use Rattle.lot_format.specs.Groups.{rising, all_up_to}
+use Rattle.lot_format.specs.RunLaws.{total_next}
+use Rattle.lot_format.specs.Lawful.{rising_low, rising_high, rising_rest}
+use Rattle.lot_roundtrip_theory.specs.Tests.{true_both}
 use Rattle.lot_entries_writer.specs.Meaning.{Grouped}
 use Rattle.bytes_output.specs.Progress.{Next, last}
 
@@ -23,25 +23,25 @@ pub record Among (elements names lengths offsets : List ℕ) (k done named : ℕ
   pub placed : done ≤ length elements
   pub rises : rising (done / 8) (length elements / 8) (drop k offsets) ≡ true
   pub sums : named + sum (drop k lengths) ≡ length names
-  pub short : allUpTo 32 (drop k lengths) ≡ true
+  pub short : all_up_to 32 (drop k lengths) ≡ true
 
 -- what is left to be written
-abbrev pub leftAmong : List ℕ → List ℕ → List ℕ → List ℕ → ℕ → ℕ → ℕ → List ℕ
-leftAmong elements names lengths offsets k done named = groupedEntries (done / 8) (groups_of (drop named names) (drop k lengths) (drop k offsets)) (drop done elements)
+abbrev pub left_among : List ℕ → List ℕ → List ℕ → List ℕ → ℕ → ℕ → ℕ → List ℕ
+left_among elements names lengths offsets k done named = grouped_entries (done / 8) (groups_of (drop named names) (drop k lengths) (drop k offsets)) (drop done elements)
 
 module _ {elements names lengths offsets : List ℕ} (g : Grouped elements names lengths offsets) where
-  pub among-start : Among elements names lengths offsets 0 0 0
-  among-start = record { eights = refl; placed = omega arith; rises = g.rises; sums = omega (arith, g.sums); short = g.short }
+  pub among_start : Among elements names lengths offsets 0 0 0
+  among_start = record { eights = refl; placed = omega arith; rises = g.rises; sums = omega (arith, g.sums); short = g.short }
 
   module _ {k done named : ℕ} (a : Among elements names lengths offsets k done named) where
     -- the elements behind the last group
-    pub last-eights : length (take (length elements - done) (drop done elements)) % 8 ≡ 0
-    last-eights = simp (length-take, length-drop) (omega (arith, a.eights, a.placed, g.eights))
+    pub last_eights : length (take (length elements - done) (drop done elements)) % 8 ≡ 0
+    last_eights = simp (length-take, length-drop) (omega (arith, a.eights, a.placed, g.eights))
 
-    pub last-next : length lengths ≤ k → Next (leftAmong elements names lengths offsets k done named) (elementEntries (take (length elements - done) (drop done elements))) []
-    last-next h =
-        last (ap (λ (ls : List ℕ). groupedEntries (done / 8) (groups_of (drop named names) ls (drop k offsets)) (drop done elements)) (drop_of_length-le lengths h)
-        ∙ ap elementEntries (sym (take_all (length elements - done) (drop done elements) (simp length-drop (omega arith)))))
+    pub last_next : length lengths ≤ k → Next (left_among elements names lengths offsets k done named) (element_entries (take (length elements - done) (drop done elements))) []
+    last_next h =
+        last (ap (λ (ls : List ℕ). grouped_entries (done / 8) (groups_of (drop named names) ls (drop k offsets)) (drop done elements)) (drop_of_length-le lengths h)
+        ∙ ap element_entries (sym (take_all (length elements - done) (drop done elements) (simp length-drop (omega arith)))))
 
     -- the next group: its elements end there, and its name
     module _ (h : k < length lengths) where
@@ -52,62 +52,62 @@ module _ {elements names lengths offsets : List ℕ} (g : Grouped elements names
       long = get_or lengths k 0
 
       counts : drop k offsets ≡ before ∷ drop (k + 1) offsets
-      counts = drop-next offsets k 0 (omega (arith, g.paired))
+      counts = drop_next offsets k 0 (omega (arith, g.paired))
 
-      rising-here : rising (done / 8) (length elements / 8) (before ∷ drop (k + 1) offsets) ≡ true
-      rising-here = subst (λ (bs : List ℕ). rising (done / 8) (length elements / 8) bs ≡ true) counts a.rises
+      rising_here : rising (done / 8) (length elements / 8) (before ∷ drop (k + 1) offsets) ≡ true
+      rising_here = subst (λ (bs : List ℕ). rising (done / 8) (length elements / 8) bs ≡ true) counts a.rises
 
-      short-here : (leb long 32 ≡ true) × (allUpTo 32 (drop (k + 1) lengths) ≡ true)
-      short-here = true-both (leb long 32) _ (subst (λ (ls : List ℕ). allUpTo 32 ls ≡ true) (drop-next lengths k 0 h) a.short)
+      short_here : (leb long 32 ≡ true) × (all_up_to 32 (drop (k + 1) lengths) ≡ true)
+      short_here = true_both (leb long 32) _ (subst (λ (ls : List ℕ). all_up_to 32 ls ≡ true) (drop_next lengths k 0 h) a.short)
 
-      pub elements-from : done ≤ 8 * before
-      elements-from = omega (arith, rising-low (done / 8) (length elements / 8) before (drop (k + 1) offsets) rising-here, a.eights)
+      pub elements_from : done ≤ 8 * before
+      elements_from = omega (arith, rising_low (done / 8) (length elements / 8) before (drop (k + 1) offsets) rising_here, a.eights)
 
-      pub elements-to : 8 * before ≤ length elements
-      elements-to = omega (arith, rising-high (done / 8) (length elements / 8) before (drop (k + 1) offsets) rising-here)
+      pub elements_to : 8 * before ≤ length elements
+      elements_to = omega (arith, rising_high (done / 8) (length elements / 8) before (drop (k + 1) offsets) rising_here)
 
-      pub names-to : named + long ≤ length names
-      names-to = omega (arith, total-next lengths k h, a.sums)
+      pub names_to : named + long ≤ length names
+      names_to = omega (arith, total_next lengths k h, a.sums)
 
-      pub part-eights : length (take (8 * before - done) (drop done elements)) % 8 ≡ 0
-      part-eights = simp (length-take, length-drop) (omega (arith, a.eights, elements-to))
+      pub part_eights : length (take (8 * before - done) (drop done elements)) % 8 ≡ 0
+      part_eights = simp (length-take, length-drop) (omega (arith, a.eights, elements_to))
 
-      pub name-short : length (take (named + long - named) (drop named names)) < 65536
-      name-short = simp length-take (omega (arith, leb-true long 32 short-here.0))
+      pub name_short : length (take (named + long - named) (drop named names)) < 65536
+      name_short = simp length-take (omega (arith, leb-true long 32 short_here.0))
 
       pub among_next : Among elements names lengths offsets (k + 1) (8 * before) (named + long)
       among_next =
           let count : 8 * before / 8 ≡ before = omega arith in record {
             eights = omega arith;
-            placed = elements-to;
-            rises = rw count (rising-rest (done / 8) (length elements / 8) before (drop (k + 1) offsets) rising-here);
-            sums = omega (arith, total-next lengths k h, a.sums);
-            short = short-here.1;
+            placed = elements_to;
+            rises = rw count (rising_rest (done / 8) (length elements / 8) before (drop (k + 1) offsets) rising_here);
+            sums = omega (arith, total_next lengths k h, a.sums);
+            short = short_here.1;
           }
 
       -- the groups from here on
-      groups-here : groups_of (drop named names) (drop k lengths) (drop k offsets) ≡ record { name = take long (drop named names); offset = before } ∷ groups_of (drop (named + long) names) (drop (k + 1) lengths) (drop (k + 1) offsets)
-      groups-here =
-          ap₂ (groups_of (drop named names)) (drop-next lengths k 0 h) counts
+      groups_here : groups_of (drop named names) (drop k lengths) (drop k offsets) ≡ record { name = take long (drop named names); offset = before } ∷ groups_of (drop (named + long) names) (drop (k + 1) lengths) (drop (k + 1) offsets)
+      groups_here =
+          ap₂ (groups_of (drop named names)) (drop_next lengths k 0 h) counts
           ∙ ap (λ (l : List ℕ). record { name = take long (drop named names); offset = before } ∷ groups_of l (drop (k + 1) lengths) (drop (k + 1) offsets)) (drop-drop long named names)
 
       pub group-next :
-          Next (leftAmong elements names lengths offsets k done named)
-          (elementEntries (take (8 * before - done) (drop done elements)) ++ entryBytes GR (take (named + long - named) (drop named names)))
-          (leftAmong elements names lengths offsets (k + 1) (8 * before) (named + long))
+          Next (left_among elements names lengths offsets k done named)
+          (element_entries (take (8 * before - done) (drop done elements)) ++ entry_bytes GR (take (named + long - named) (drop named names)))
+          (left_among elements names lengths offsets (k + 1) (8 * before) (named + long))
       group-next =
           let gs = groups_of (drop (named + long) names) (drop (k + 1) lengths) (drop (k + 1) offsets) in
           let many : 8 * (before - done / 8) ≡ 8 * before - done = omega (arith, a.eights) in
           let count : 8 * before / 8 ≡ before = omega arith in
           let size : named + long - named ≡ long = omega arith in
-          let to : done + (8 * before - done) ≡ 8 * before = omega (arith, elements-from) in
-          let name = entryBytes GR (take long (drop named names)) in
-          let here = elementEntries (take (8 * before - done) (drop done elements)) in
+          let to : done + (8 * before - done) ≡ 8 * before = omega (arith, elements_from) in
+          let name = entry_bytes GR (take long (drop named names)) in
+          let here = element_entries (take (8 * before - done) (drop done elements)) in
           record {
             parts =
-                ap (λ (l : List Group). groupedEntries (done / 8) l (drop done elements)) groups-here
-                ∙ ap (λ (n : ℕ). elementEntries (take n (drop done elements)) ++ (name ++ groupedEntries before gs (drop n (drop done elements)))) many
-                ∙ ap (λ (l : List ℕ). here ++ (name ++ groupedEntries before gs l)) (drop-drop (8 * before - done) done elements ∙ ap (λ (n : ℕ). drop n elements) to)
-                ∙ sym (append_assoc here name (groupedEntries before gs (drop (8 * before) elements)))
+                ap (λ (l : List Group). grouped_entries (done / 8) l (drop done elements)) groups_here
+                ∙ ap (λ (n : ℕ). element_entries (take n (drop done elements)) ++ (name ++ grouped_entries before gs (drop n (drop done elements)))) many
+                ∙ ap (λ (l : List ℕ). here ++ (name ++ grouped_entries before gs l)) (drop-drop (8 * before - done) done elements ∙ ap (λ (n : ℕ). drop n elements) to)
+                ∙ sym (append_assoc here name (grouped_entries before gs (drop (8 * before) elements)))
                 ∙ rw (size, count);
           }

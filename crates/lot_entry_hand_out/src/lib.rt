@@ -3,8 +3,8 @@
 ghost use Rattle.std.specs.Prelude.{◌≡◌, ◌∷◌, [], ◌+◌, ◌*◌, ◌≤◌, ◌<◌, length, take, drop};
 ghost use Rattle.foundation.specs.Laid.{put};
 ghost use Rattle.lot_format.specs.Numbers.{unsigneds, signeds};
-ghost use Rattle.lot_marks.specs.Meaning.{markHeld};
-ghost use Rattle.lot_entry_hand_out.specs.Meaning.{newRuns, Fitting};
+ghost use Rattle.lot_marks.specs.Meaning.{mark_held};
+ghost use Rattle.lot_entry_hand_out.specs.Meaning.{new_runs, Fitting};
 
 use lot_marks::Mark;
 use lot_scan::Counts;
@@ -65,12 +65,12 @@ pub fn put_entry(
     offsets: &mut [u32],
     n: Counts,
 )
-    requires { Fitting (markHeld mark) file.now at len n (length nodes.old) (length elements.old) (length names.old) (length lengths.old) (length offsets.old) }
-    ensures nodes_after { nodes.new ≡ put (3 * n.nodes) (newRuns (markHeld mark) file.now at len n).nodes nodes.old }
-    ensures elements_after { elements.new ≡ put (8 * n.elements) (newRuns (markHeld mark) file.now at len n).elements elements.old }
-    ensures names_after { names.new ≡ put n.names (newRuns (markHeld mark) file.now at len n).names names.old }
-    ensures lengths_after { lengths.new ≡ put n.groups (newRuns (markHeld mark) file.now at len n).lengths lengths.old }
-    ensures offsets_after { offsets.new ≡ put n.groups (newRuns (markHeld mark) file.now at len n).offsets offsets.old }
+    requires { Fitting (mark_held mark) file.now at len n (length nodes.old) (length elements.old) (length names.old) (length lengths.old) (length offsets.old) }
+    ensures nodes_after { nodes.new ≡ put (3 * n.nodes) (new_runs (mark_held mark) file.now at len n).nodes nodes.old }
+    ensures elements_after { elements.new ≡ put (8 * n.elements) (new_runs (mark_held mark) file.now at len n).elements elements.old }
+    ensures names_after { names.new ≡ put n.names (new_runs (mark_held mark) file.now at len n).names names.old }
+    ensures lengths_after { lengths.new ≡ put n.groups (new_runs (mark_held mark) file.now at len n).lengths lengths.old }
+    ensures offsets_after { offsets.new ≡ put n.groups (new_runs (mark_held mark) file.now at len n).offsets offsets.old }
 {
     match mark {
         Mark::LB => {}

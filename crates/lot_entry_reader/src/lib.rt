@@ -1,12 +1,12 @@
 // The entries of a lot file, as a record of the file is called here: mark, length, body. What stands at a place of the file, and whether it is
 // right there. An inner crate: its callers meet what each `requires` asks.
-// Every answer is an equation with `Format` and `Reading` of the crate `lot_format` at the limits `lotFile`.
+// Every answer is an equation with `Format` and `Reading` of the crate `lot_format` at the limits `lot_file`.
 ghost use Rattle.std.specs.Prelude.{◌≡◌, true, ◌+◌, ◌/◌, ◌%◌, ◌≤◌, ◌<◌, length, get_or, take, drop};
 ghost use Rattle.lot_format.specs.Numbers.{number};
-ghost use Rattle.lot_format.specs.Format.{lotFile, mark_of, rightLength, nameByte, nameBytes};
-ghost use Rattle.lot_format.specs.Reading.{nameFault, bodyFault, body_of, known_of, entry_of};
-ghost use Rattle.lot_marks.specs.Meaning.{markHeld, markedHeld, stageHeld};
-ghost use Rattle.lot_entry_reader.specs.Meaning.{faultHeld, entryHeld, Within};
+ghost use Rattle.lot_format.specs.Format.{lot_file, mark_of, right_length, name_byte, name_bytes};
+ghost use Rattle.lot_format.specs.Reading.{name_fault, body_fault, body_of, known_of, entry_of};
+ghost use Rattle.lot_marks.specs.Meaning.{mark_held, marked_held, stage_held};
+ghost use Rattle.lot_entry_reader.specs.Meaning.{fault_held, entry_held, Within};
 
 use limits::MAX_ELEMENTS;
 use lot_marks::{Mark, Marked, Stage};
@@ -40,14 +40,14 @@ pub enum Entry {
 
 // Whether a byte may stand in a label or a group's name.
 fn name_byte(b: u8) -> bool
-    ensures { result ≡ nameByte b }
+    ensures { result ≡ name_byte b }
 {
     (32 <= b) & (b <= 126)
 }
 
 // Whether all bytes may stand in a label or a group's name.
 pub fn name_bytes(name: &[u8]) -> bool
-    ensures { result ≡ nameBytes name.now }
+    ensures { result ≡ name_bytes name.now }
 {
     for k in 0..name.len() {
         let b = name[k];
@@ -60,7 +60,7 @@ pub fn name_bytes(name: &[u8]) -> bool
 
 // The fault of a label or a group's name.
 fn name_fault(name: &[u8]) -> Body
-    ensures { faultHeld result ≡ nameFault name.now }
+    ensures { fault_held result ≡ name_fault name.now }
 {
     if name_bytes(name) {
         Body::Right
@@ -71,7 +71,7 @@ fn name_fault(name: &[u8]) -> Body
 
 // The fault of a whole entry, where so many elements stand before it.
 fn body_fault(mark: Mark, elements: usize, body: &[u8]) -> Body
-    ensures { faultHeld result ≡ bodyFault lotFile (markHeld mark) elements body.now }
+    ensures { fault_held result ≡ body_fault lot_file (mark_held mark) elements body.now }
 {
     match mark {
         Mark::LB => name_fault(body),
@@ -91,7 +91,7 @@ fn body_fault(mark: Mark, elements: usize, body: &[u8]) -> Body
 // The mark of the entry at a place.
 pub fn mark_at(file: &[u8], at: usize) -> Marked
     requires { at + 2 ≤ length file.now }
-    ensures { markedHeld result ≡ mark_of (get_or (drop at file.now) 0 0) (get_or (drop at file.now) 1 0) }
+    ensures { marked_held result ≡ mark_of (get_or (drop at file.now) 0 0) (get_or (drop at file.now) 1 0) }
 {
     lot_marks::mark_of(bytes_input::short_at(file, at))
 }
@@ -107,7 +107,7 @@ pub fn length_at(file: &[u8], at: usize) -> usize
 // The entry at a place, its mark and length being right: cut short, at fault, or whole.
 fn body_at(file: &[u8], at: usize, mark: Mark, elements: usize, len: usize) -> Entry
     requires { (at + 4 ≤ length file.now) × (len < 65536) }
-    ensures result_value { entryHeld (drop at file.now) result ≡ body_of lotFile (markHeld mark) elements len (drop 4 (drop at file.now)) }
+    ensures result_value { entry_held (drop at file.now) result ≡ body_of lot_file (mark_held mark) elements len (drop 4 (drop at file.now)) }
     ensures within { Within (drop at file.now) result }
 {
     let start = at + 4;
@@ -124,7 +124,7 @@ fn body_at(file: &[u8], at: usize, mark: Mark, elements: usize, len: usize) -> E
 // The entry at a place, its mark being known.
 fn known_at(file: &[u8], at: usize, stage: Stage, mark: Mark, elements: usize) -> Entry
     requires { at + 4 ≤ length file.now }
-    ensures result_value { entryHeld (drop at file.now) result ≡ known_of lotFile (stageHeld stage) (markHeld mark) elements (drop at file.now) }
+    ensures result_value { entry_held (drop at file.now) result ≡ known_of lot_file (stage_held stage) (mark_held mark) elements (drop at file.now) }
     ensures within { Within (drop at file.now) result }
 {
     let len = length_at(file, at);
@@ -143,7 +143,7 @@ fn known_at(file: &[u8], at: usize, stage: Stage, mark: Mark, elements: usize) -
 // What stands at a place of the file, where so many elements stand before it.
 pub fn entry_at(file: &[u8], at: usize, stage: Stage, elements: usize) -> Entry
     requires { at ≤ length file.now }
-    ensures result_value { entryHeld (drop at file.now) result ≡ entry_of lotFile (stageHeld stage) elements (drop at file.now) }
+    ensures result_value { entry_held (drop at file.now) result ≡ entry_of lot_file (stage_held stage) elements (drop at file.now) }
     ensures within { Within (drop at file.now) result }
 {
     if file.len() - at < 4 {

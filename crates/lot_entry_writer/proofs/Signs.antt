@@ -32,11 +32,11 @@ module _ {z : ℤ} (f : SFits w32 z) where
   same : held ≡ z
   same = to_z-of_z {w = w32} f
 
-  pub held-positive : le_z (pos 0) held ≡ true → T (non_neg held) × (nat_abs held ≡ bits z) × (nat_abs held ≡ mag z)
-  held-positive e = let p = positive held e in (p.0, p.1 ∙ ap bits same, p.2 ∙ ap mag same)
+  pub held_positive : le_z (pos 0) held ≡ true → T (non_neg held) × (nat_abs held ≡ bits z) × (nat_abs held ≡ mag z)
+  held_positive e = let p = positive held e in (p.0, p.1 ∙ ap bits same, p.2 ∙ ap mag same)
 
-  pub held-distance : le_z (pos 0) held ≡ false → (negsuc 0 -ℤ held ≡ pos (mag z)) × (to_z w32 (of_z w32 (negsuc 0 -ℤ held)) ≡ pos (mag z)) × (4294967295 - mag z ≡ bits z)
-  held-distance e =
+  pub held_distance : le_z (pos 0) held ≡ false → (negsuc 0 -ℤ held ≡ pos (mag z)) × (to_z w32 (of_z w32 (negsuc 0 -ℤ held)) ≡ pos (mag z)) × (4294967295 - mag z ≡ bits z)
+  held_distance e =
       let p = negative held e in
       let d : negsuc 0 -ℤ held ≡ pos (mag z) = p.0 ∙ ap (λ (y : ℤ). pos (mag y)) same in
       (d, ap (λ (y : ℤ). to_z w32 (of_z w32 y)) d ∙ to_z-of_z {w = w32} (record { sfits = f.sfits }), subst (λ (y : ℤ). 4294967295 - mag y ≡ bits y) same p.1)

@@ -1,6 +1,6 @@
 -- An entry by the number of its letters.
 use Rattle.std.specs.Prelude.{List, ◌++◌, ℕ, length}
-use Rattle.lot_format.specs.Numbers.{numberBytes}
+use Rattle.lot_format.specs.Numbers.{number_bytes}
 
-abbrev pub entryWith : ℕ → List ℕ → List ℕ
-entryWith letters body = numberBytes 2 letters ++ (numberBytes 2 (length body) ++ body)
+abbrev pub entry_with : ℕ → List ℕ → List ℕ
+entry_with letters body = number_bytes 2 letters ++ (number_bytes 2 (length body) ++ body)

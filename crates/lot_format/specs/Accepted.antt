@@ -9,60 +9,60 @@ use Rattle.std.proofs.Math.ListN.{length-append}
 use Rattle.std.proofs.Math.Seq.{take-append_seam}
 use Rattle.foundation.specs.Lists.{All}
 use Rattle.lot_format.specs.Numbers.{Byte}
-use Rattle.lot_format.specs.Format.{FileLimits, Lot, atLabel, atEnd, written}
-use Rattle.lot_format.specs.Runs.{Runs, runsOf}
-use Rattle.lot_format.specs.Reading.{tooLong, noRoom, Reading, readable, unreadable, readFrom, noLot, readLot, Room, room_for, reading, handedOut}
-use Rattle.lot_format.specs.Through.{not-accepted, through}
-use Rattle.lot_format.specs.Lawful.{Lawful, lawful-noLot}
+use Rattle.lot_format.specs.Format.{FileLimits, Lot, at_label, at_end, written}
+use Rattle.lot_format.specs.Runs.{Runs, runs_of}
+use Rattle.lot_format.specs.Reading.{too_long, no_room, Reading, readable, unreadable, read_from, no_lot, read_lot, Room, room_for, reading, handed_out}
+use Rattle.lot_format.specs.Through.{not_accepted, through}
+use Rattle.lot_format.specs.Lawful.{Lawful, lawful_no_lot}
 use Rattle.lot_format.specs.Between.{Between, between_step}
 
 module _ (F : FileLimits) (file : List ℕ) (lot : Lot) where
-  within : readLot F file ≡ readable lot → (length file ≤ F.bytes) × (readFrom F (suc (length file)) atLabel noLot file ≡ readable lot)
-  unfolding readLot
+  within : read_lot F file ≡ readable lot → (length file ≤ F.bytes) × (read_from F (suc (length file)) at_label no_lot file ≡ readable lot)
+  unfolding read_lot
   within e = go (ltb F.bytes (length file)) refl e
     where
-      go : (t : Bool) → ltb F.bytes (length file) ≡ t → elim t [ true ↦ unreadable tooLong | false ↦ readFrom F (suc (length file)) atLabel noLot file ] ≡ readable lot
-          → (length file ≤ F.bytes) × (readFrom F (suc (length file)) atLabel noLot file ≡ readable lot)
-      go true p e = not-accepted tooLong e
+      go : (t : Bool) → ltb F.bytes (length file) ≡ t → elim t [ true ↦ unreadable too_long | false ↦ read_from F (suc (length file)) at_label no_lot file ] ≡ readable lot
+          → (length file ≤ F.bytes) × (read_from F (suc (length file)) at_label no_lot file ≡ readable lot)
+      go true p e = not_accepted too_long e
       go false p e = (ltb-false F.bytes (length file) p, e)
 
-  accepted-end : All Byte file → readLot F file ≡ readable lot → Between F file atEnd lot []
-  accepted-end h e = through F (Between F file) (λ stage m l bytes body w g. between_step w g) lot (suc (length file)) atLabel noLot file (within e).1 (record { left = h; lawful = lawful-noLot F; so_far = (refl, refl) })
+  accepted_end : All Byte file → read_lot F file ≡ readable lot → Between F file at_end lot []
+  accepted_end h e = through F (Between F file) (λ stage m l bytes body w g. between_step w g) lot (suc (length file)) at_label no_lot file (within e).1 (record { left = h; lawful = lawful_no_lot F; so_far = (refl, refl) })
 
   -- ---- what is known of an accepted file, and of its lot
-  pub accepted-short : readLot F file ≡ readable lot → length file ≤ F.bytes
-  accepted-short e = (within e).0
+  pub accepted_short : read_lot F file ≡ readable lot → length file ≤ F.bytes
+  accepted_short e = (within e).0
 
-  pub accepted-lawful : All Byte file → readLot F file ≡ readable lot → Lawful F lot
-  accepted-lawful h e = (accepted-end h e).lawful
+  pub accepted_lawful : All Byte file → read_lot F file ≡ readable lot → Lawful F lot
+  accepted_lawful h e = (accepted_end h e).lawful
 
-  pub accepted-written : All Byte file → readLot F file ≡ readable lot → file ≡ written lot
+  pub accepted_written : All Byte file → read_lot F file ≡ readable lot → file ≡ written lot
   unfolding written
-  accepted-written h e = (accepted-end h e).so_far
+  accepted_written h e = (accepted_end h e).so_far
 
   -- the label stands behind the four bytes of its mark and length
-  pub accepted-label : All Byte file → readLot F file ≡ readable lot → lot.label ≡ take (length lot.label) (drop 4 file)
+  pub accepted_label : All Byte file → read_lot F file ≡ readable lot → lot.label ≡ take (length lot.label) (drop 4 file)
   unfolding written
-  accepted-label h e = rw (accepted-written h e) (sym (take-append_seam lot.label _))
+  accepted_label h e = rw (accepted_written h e) (sym (take-append_seam lot.label _))
 
-  pub accepted-label-fits : All Byte file → readLot F file ≡ readable lot → 4 + length lot.label ≤ length file
+  pub accepted_label_fits : All Byte file → read_lot F file ≡ readable lot → 4 + length lot.label ≤ length file
   unfolding written
-  accepted-label-fits h e = rw (accepted-written h e) (simp length-append (omega arith))
+  accepted_label_fits h e = rw (accepted_written h e) (simp length-append (omega arith))
 
 -- ---- with lent space: what is handed out is what the file holds, and there is room for it
 module _ (F : FileLimits) (file : List ℕ) (room : Room) (lot : Lot) where
-  pub reading-accepted : reading F file room ≡ readable lot → (readLot F file ≡ readable lot) × (room_for (runsOf lot) room ≡ true)
+  pub reading_accepted : reading F file room ≡ readable lot → (read_lot F file ≡ readable lot) × (room_for (runs_of lot) room ≡ true)
   unfolding reading
-  reading-accepted e = go (readLot F file) refl e
+  reading_accepted e = go (read_lot F file) refl e
     where
-      roomy : (l : Lot) (t : Bool) → room_for (runsOf l) room ≡ t → elim t [ true ↦ readable l | false ↦ unreadable noRoom ] ≡ readable lot → (l ≡ lot) × (room_for (runsOf l) room ≡ true)
+      roomy : (l : Lot) (t : Bool) → room_for (runs_of l) room ≡ t → elim t [ true ↦ readable l | false ↦ unreadable no_room ] ≡ readable lot → (l ≡ lot) × (room_for (runs_of l) room ≡ true)
       roomy l true p e = (cc, p)
-      roomy l false p e = not-accepted noRoom e
+      roomy l false p e = not_accepted no_room e
 
-      go : (r : Reading) → readLot F file ≡ r → elim r [ unreadable w ↦ unreadable w | readable l ↦ elim (room_for (runsOf l) room) [ true ↦ readable l | false ↦ unreadable noRoom ] ] ≡ readable lot
-          → (readLot F file ≡ readable lot) × (room_for (runsOf lot) room ≡ true)
-      go (unreadable w) p e = not-accepted w e
-      go (readable l) p e = let q = roomy l (room_for (runsOf l) room) refl e in (p ∙ ap readable q.0, subst (λ (x : Lot). room_for (runsOf x) room ≡ true) q.0 q.1)
+      go : (r : Reading) → read_lot F file ≡ r → elim r [ unreadable w ↦ unreadable w | readable l ↦ elim (room_for (runs_of l) room) [ true ↦ readable l | false ↦ unreadable no_room ] ] ≡ readable lot
+          → (read_lot F file ≡ readable lot) × (room_for (runs_of lot) room ≡ true)
+      go (unreadable w) p e = not_accepted w e
+      go (readable l) p e = let q = roomy l (room_for (runs_of l) room) refl e in (p ∙ ap readable q.0, subst (λ (x : Lot). room_for (runs_of x) room ≡ true) q.0 q.1)
 
 -- each run fits the lent one
 pub record Fits (x : Runs) (room : Room) : Type 0 where
@@ -93,9 +93,9 @@ room_fits x room e =
 
 -- ---- the label that is handed out, of any file
 module _ (F : FileLimits) (file : List ℕ) (room : Room) (h : All Byte file) where
-  pub handed-label-short : length (handedOut (reading F file room)).label ≤ F.name
-  handed-label-short = go (reading F file room) refl
+  pub handed_label_short : length (handed_out (reading F file room)).label ≤ F.name
+  handed_label_short = go (reading F file room) refl
     where
-      go : (r : Reading) → reading F file room ≡ r → length (handedOut r).label ≤ F.name
+      go : (r : Reading) → reading F file room ≡ r → length (handed_out r).label ≤ F.name
       go (unreadable w) e = omega arith
-      go (readable lot) e = (accepted-lawful F file lot h (reading-accepted F file room lot e).0).label.short
+      go (readable lot) e = (accepted_lawful F file lot h (reading_accepted F file room lot e).0).label.short

@@ -2,16 +2,16 @@
 use Rattle.std.specs.Prelude.{Bool, true, false, ◌&&◌, List, [], ◌∷◌, ℕ, eqb, leb, length}
 use Rattle.std.proofs.Math.Option.{Option, none, some}
 use Rattle.foundation.specs.Lists.{sum}
-use Rattle.lot_format.specs.Format.{FileLimits, nameBytes}
+use Rattle.lot_format.specs.Format.{FileLimits, name_bytes}
 
 -- a test with the refusal that it gives, and the refusal of the first test that fails
 pub record Test (R : Type 0) : Type 0 where
   pub passed : Bool
   pub otherwise : R
 
-abbrev pub firstFailed : {R : Type 0} → List (Test R) → Option R
-firstFailed [] = none
-firstFailed (t ∷ ts) = elim t.passed [ true ↦ firstFailed ts | false ↦ some t.otherwise ]
+abbrev pub first_failed : {R : Type 0} → List (Test R) → Option R
+first_failed [] = none
+first_failed (t ∷ ts) = elim t.passed [ true ↦ first_failed ts | false ↦ some t.otherwise ]
 
 -- "lists of different length, lengths that don't add up to the names, or a count that falls or passes the elements, are 24"
 -- counts from `low` on that don't fall and don't pass `high`
@@ -20,25 +20,25 @@ rising low high [] = true
 rising low high (b ∷ bs) = leb low b && (leb b high && rising b high bs)
 
 -- the lengths and the counts, where there are so many bytes of names and so many elements
-abbrev pub fitTogether : List ℕ → List ℕ → ℕ → ℕ → Bool
-fitTogether lengths offsets names elements = eqb (length lengths) (length offsets) && (eqb (sum lengths) names && rising 0 elements offsets)
+abbrev pub fit_together : List ℕ → List ℕ → ℕ → ℕ → Bool
+fit_together lengths offsets names elements = eqb (length lengths) (length offsets) && (eqb (sum lengths) names && rising 0 elements offsets)
 
 -- "A label or name is 0 to 32 bytes, each 32..126; a longer one handed in is 23, then a wrong byte in it 25."
-abbrev pub allUpTo : ℕ → List ℕ → Bool
-allUpTo n [] = true
-allUpTo n (x ∷ xs) = leb x n && allUpTo n xs
+abbrev pub all_up_to : ℕ → List ℕ → Bool
+all_up_to n [] = true
+all_up_to n (x ∷ xs) = leb x n && all_up_to n xs
 
 -- the length of the label and the lengths of the names
-abbrev pub shortNames : FileLimits → ℕ → List ℕ → Bool
-shortNames F label lengths = leb label F.name && allUpTo F.name lengths
+abbrev pub short_names : FileLimits → ℕ → List ℕ → Bool
+short_names F label lengths = leb label F.name && all_up_to F.name lengths
 
 -- the bytes of the label and of the names
-abbrev pub cleanNames : List ℕ → List ℕ → Bool
-cleanNames label names = nameBytes label && nameBytes names
+abbrev pub clean_names : List ℕ → List ℕ → Bool
+clean_names label names = name_bytes label && name_bytes names
 
 -- These tests in order: the refusals that stand for 24, 23 and 25; the label; the groups; the number of elements.
-abbrev pub groupTests : {R : Type 0} → R → R → R → FileLimits → List ℕ → List ℕ → List ℕ → List ℕ → ℕ → List (Test R)
-groupTests apart tooLong badByte F label names lengths offsets elements =
-    record { passed = fitTogether lengths offsets (length names) elements; otherwise = apart } ∷
-    record { passed = shortNames F (length label) lengths; otherwise = tooLong } ∷
-    record { passed = cleanNames label names; otherwise = badByte } ∷ []
+abbrev pub group_tests : {R : Type 0} → R → R → R → FileLimits → List ℕ → List ℕ → List ℕ → List ℕ → ℕ → List (Test R)
+group_tests apart too_long bad_byte F label names lengths offsets elements =
+    record { passed = fit_together lengths offsets (length names) elements; otherwise = apart } ∷
+    record { passed = short_names F (length label) lengths; otherwise = too_long } ∷
+    record { passed = clean_names label names; otherwise = bad_byte } ∷ []

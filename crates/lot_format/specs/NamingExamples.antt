@@ -2,7 +2,7 @@
 use Rattle.std.specs.Prelude.{◌≡◌, refl, List, [], ◌∷◌, ℕ}
 use Rattle.foundation.specs.Lists.{All}
 use Rattle.lot_format.specs.Format.{FileLimits}
-use Rattle.lot_format.specs.Naming.{groupsApart, nameTooLong, badByte, noSuchElement, Naming, named, unnamed, naming}
+use Rattle.lot_format.specs.Naming.{groups_apart, name_too_long, bad_byte, no_such_element, Naming, named, unnamed, naming}
 
 -- what is handed in, and the answer
 pub record Example : Type 0 where
@@ -34,24 +34,24 @@ examples =
     right 0 (named (76 ∷ [])) ∷
     right 1 (named (76 ∷ [])) ∷
     right 2 (named (90 ∷ 122 ∷ [])) ∷
-    right 3 (unnamed noSuchElement) ∷
+    right 3 (unnamed no_such_element) ∷
     bare 1 (named (76 ∷ [])) ∷
-    bare 0 (unnamed noSuchElement) ∷
-    wrong (0 ∷ 0 ∷ 0 ∷ []) (65 ∷ []) (1 ∷ 0 ∷ []) (0 ∷ []) (unnamed groupsApart) ∷
-    wrong (0 ∷ 0 ∷ 0 ∷ []) (65 ∷ []) (1 ∷ []) (0 ∷ 0 ∷ []) (unnamed groupsApart) ∷
-    wrong (0 ∷ 0 ∷ 0 ∷ []) (65 ∷ 0 ∷ []) (1 ∷ []) (0 ∷ []) (unnamed groupsApart) ∷
-    wrong (0 ∷ 0 ∷ 0 ∷ []) (65 ∷ 0 ∷ []) (3 ∷ []) (0 ∷ []) (unnamed groupsApart) ∷
-    wrong (0 ∷ 0 ∷ 0 ∷ []) [] (0 ∷ 0 ∷ []) (1 ∷ 0 ∷ []) (unnamed groupsApart) ∷
-    wrong (0 ∷ 0 ∷ 0 ∷ []) [] (0 ∷ 0 ∷ []) (1 ∷ 3 ∷ []) (unnamed groupsApart) ∷
-    wrong (0 ∷ 0 ∷ 0 ∷ []) [] [] [] (unnamed nameTooLong) ∷
-    wrong [] (0 ∷ 0 ∷ 0 ∷ []) (3 ∷ []) (2 ∷ []) (unnamed nameTooLong) ∷
-    wrong (32 ∷ 31 ∷ []) (32 ∷ []) (1 ∷ []) (2 ∷ []) (unnamed badByte) ∷
-    wrong (126 ∷ []) (126 ∷ 127 ∷ []) (2 ∷ []) (2 ∷ []) (unnamed badByte) ∷ []
+    bare 0 (unnamed no_such_element) ∷
+    wrong (0 ∷ 0 ∷ 0 ∷ []) (65 ∷ []) (1 ∷ 0 ∷ []) (0 ∷ []) (unnamed groups_apart) ∷
+    wrong (0 ∷ 0 ∷ 0 ∷ []) (65 ∷ []) (1 ∷ []) (0 ∷ 0 ∷ []) (unnamed groups_apart) ∷
+    wrong (0 ∷ 0 ∷ 0 ∷ []) (65 ∷ 0 ∷ []) (1 ∷ []) (0 ∷ []) (unnamed groups_apart) ∷
+    wrong (0 ∷ 0 ∷ 0 ∷ []) (65 ∷ 0 ∷ []) (3 ∷ []) (0 ∷ []) (unnamed groups_apart) ∷
+    wrong (0 ∷ 0 ∷ 0 ∷ []) [] (0 ∷ 0 ∷ []) (1 ∷ 0 ∷ []) (unnamed groups_apart) ∷
+    wrong (0 ∷ 0 ∷ 0 ∷ []) [] (0 ∷ 0 ∷ []) (1 ∷ 3 ∷ []) (unnamed groups_apart) ∷
+    wrong (0 ∷ 0 ∷ 0 ∷ []) [] [] [] (unnamed name_too_long) ∷
+    wrong [] (0 ∷ 0 ∷ 0 ∷ []) (3 ∷ []) (2 ∷ []) (unnamed name_too_long) ∷
+    wrong (32 ∷ 31 ∷ []) (32 ∷ []) (1 ∷ []) (2 ∷ []) (unnamed bad_byte) ∷
+    wrong (126 ∷ []) (126 ∷ 127 ∷ []) (2 ∷ []) (2 ∷ []) (unnamed bad_byte) ∷ []
 
 -- The one claim.
 abbrev pub Holds : Example → Type 0
 Holds x = naming limits x.label x.names x.lengths x.offsets x.elements x.element ≡ x.answer
 
-pub examples-hold : All Holds examples
+pub examples_hold : All Holds examples
 unfolding naming
-examples-hold = (refl, (refl, (refl, (refl, (refl, (refl, (refl, (refl, (refl, (refl, (refl, (refl, (refl, (refl, (refl, (refl, tt))))))))))))))))
+examples_hold = (refl, (refl, (refl, (refl, (refl, (refl, (refl, (refl, (refl, (refl, (refl, (refl, (refl, (refl, (refl, (refl, tt))))))))))))))))

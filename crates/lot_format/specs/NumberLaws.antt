@@ -2,8 +2,8 @@
 use Rattle.std.specs.Prelude.{◌≡◌, refl, Bool, true, false, List, [], ◌∷◌, ◌++◌, map, ℕ, zero, suc, ◌+◌, ◌-◌, ◌*◌, ◌/◌, ◌%◌, ◌^◌, ◌<◌, ◌≤◌, ltb, get_or, length, take, drop, ℤ, pos, negsuc}
 use Rattle.std.proofs.Common.{sym, ◌∙◌, ap, ap₂, pow-suc, arith, length-take, length-drop, take-append-drop, length-take-le, drop-cons, ltb-true, ltb-false}
 use Rattle.std.specs.Int.Signed.{mag}
-use Rattle.foundation.specs.Lists.{All, all_left, all_right, all_map, all-image, getD-all}
-use Rattle.lot_format.specs.Numbers.{Byte, number, numberBytes, signed, bits, unsigneds, signeds, unsignedBytes, signedBytes}
+use Rattle.foundation.specs.Lists.{All, all_left, all_right, all_map, all_image, get_d_all}
+use Rattle.lot_format.specs.Numbers.{Byte, number, number_bytes, signed, bits, unsigneds, signeds, unsigned_bytes, signed_bytes}
 
 pub bytes_take : (n : ℕ) (bs : List ℕ) → All Byte bs → All Byte (take n bs)
 bytes_take n bs h = all_left Byte (take n bs) (drop n bs) (rw take-append-drop h)
@@ -11,16 +11,16 @@ bytes_take n bs h = all_left Byte (take n bs) (drop n bs) (rw take-append-drop h
 pub bytes_drop : (n : ℕ) (bs : List ℕ) → All Byte bs → All Byte (drop n bs)
 bytes_drop n bs h = all_right Byte (take n bs) (drop n bs) (rw take-append-drop h)
 
-pub bytes-by-place : (bs : List ℕ) → ((i : ℕ) → Byte (get_or bs i 0)) → All Byte bs
-bytes-by-place bs h = getD-all Byte bs 0 (λ i l. h i)
+pub bytes_by_place : (bs : List ℕ) → ((i : ℕ) → Byte (get_or bs i 0)) → All Byte bs
+bytes_by_place bs h = get_d_all Byte bs 0 (λ i l. h i)
 
 -- ---- one number
-pub numberBytes-number : (bs : List ℕ) → All Byte bs → numberBytes (length bs) (number bs) ≡ bs
-numberBytes-number [] h = refl
-numberBytes-number (b ∷ bs) h = let x = b + 256 * number bs in
+pub number_bytes_number : (bs : List ℕ) → All Byte bs → number_bytes (length bs) (number bs) ≡ bs
+number_bytes_number [] h = refl
+number_bytes_number (b ∷ bs) h = let x = b + 256 * number bs in
     let low : x % 256 ≡ b = omega (arith, h.0) in
     let high : x / 256 ≡ number bs = omega (arith, h.0) in
-    ap₂ ◌∷◌ low (ap (numberBytes (length bs)) high ∙ numberBytes-number bs h.1)
+    ap₂ ◌∷◌ low (ap (number_bytes (length bs)) high ∙ number_bytes_number bs h.1)
 
 pub number_small : (n : ℕ) (bs : List ℕ) → All Byte bs → length bs ≤ n → number bs < 256 ^ n
 number_small zero [] h l = omega arith
@@ -29,35 +29,35 @@ number_small (suc n) [] h l = omega (arith, pow-suc 256 n, number_small n [] tt 
 number_small (suc n) (b ∷ bs) h l = omega (arith, pow-suc 256 n, number_small n bs h.1 (omega arith), h.0)
 
 -- ---- two bytes and four at a place
-drop-two : (xs : List ℕ) (at : ℕ) → at + 2 ≤ length xs → drop at xs ≡ get_or xs at 0 ∷ get_or xs (at + 1) 0 ∷ drop (at + 2) xs
-drop-two xs at h =
+drop_two : (xs : List ℕ) (at : ℕ) → at + 2 ≤ length xs → drop at xs ≡ get_or xs at 0 ∷ get_or xs (at + 1) 0 ∷ drop (at + 2) xs
+drop_two xs at h =
     let one : at + 1 ≡ suc at = omega arith in
     let two : at + 2 ≡ suc (suc at) = omega arith in
     drop-cons xs at 0 (omega arith) ∙ ap (λ (l : List ℕ). get_or xs at 0 ∷ l) (drop-cons xs (suc at) 0 (omega arith) ∙ rw (one, two))
 
-pub number-two : (xs : List ℕ) (at : ℕ) → at + 2 ≤ length xs → number (take 2 (drop at xs)) ≡ get_or xs at 0 + 256 * get_or xs (at + 1) 0
-number-two xs at h = ap (λ (l : List ℕ). number (take 2 l)) (drop-two xs at h) ∙ omega arith
+pub number_two : (xs : List ℕ) (at : ℕ) → at + 2 ≤ length xs → number (take 2 (drop at xs)) ≡ get_or xs at 0 + 256 * get_or xs (at + 1) 0
+number_two xs at h = ap (λ (l : List ℕ). number (take 2 l)) (drop_two xs at h) ∙ omega arith
 
-pub number-four : (xs : List ℕ) (at : ℕ) → at + 4 ≤ length xs → number (take 4 (drop at xs)) ≡ number (take 2 (drop at xs)) + 65536 * number (take 2 (drop (at + 2) xs))
-number-four xs at h =
+pub number_four : (xs : List ℕ) (at : ℕ) → at + 4 ≤ length xs → number (take 4 (drop at xs)) ≡ number (take 2 (drop at xs)) + 65536 * number (take 2 (drop (at + 2) xs))
+number_four xs at h =
     let e : at + 2 + 2 ≡ at + 4 = omega arith in
-    let first = drop-two xs at (omega arith) in
-    let second = drop-two xs (at + 2) (omega arith) in
+    let first = drop_two xs at (omega arith) in
+    let second = drop_two xs (at + 2) (omega arith) in
     ap (λ (l : List ℕ). number (take 4 l)) (first ∙ ap (λ (l : List ℕ). get_or xs at 0 ∷ get_or xs (at + 1) 0 ∷ l) second)
-    ∙ omega (arith, number-two xs at (omega arith), number-two xs (at + 2) (omega arith))
+    ∙ omega (arith, number_two xs at (omega arith), number_two xs (at + 2) (omega arith))
 
 -- ---- signed numbers of 32 bits
-pub bits-signed : (x : ℕ) → x < 2 ^ 32 → bits (signed x) ≡ x
+pub bits_signed : (x : ℕ) → x < 2 ^ 32 → bits (signed x) ≡ x
 unfolding signed
-bits-signed x h = go (ltb x (2 ^ 31))
+bits_signed x h = go (ltb x (2 ^ 31))
   where
     go : (t : Bool) → bits (elim t [ true ↦ pos x | false ↦ negsuc (2 ^ 32 - 1 - x) ]) ≡ x
     go true = refl
     go false = omega arith
 
-pub signed-small : (x : ℕ) → x < 2 ^ 32 → mag (signed x) < 2 ^ 31
+pub signed_small : (x : ℕ) → x < 2 ^ 32 → mag (signed x) < 2 ^ 31
 unfolding signed
-signed-small x h = go (ltb x (2 ^ 31)) refl
+signed_small x h = go (ltb x (2 ^ 31)) refl
   where
     go : (t : Bool) → ltb x (2 ^ 31) ≡ t → mag (elim t [ true ↦ pos x | false ↦ negsuc (2 ^ 32 - 1 - x) ]) < 2 ^ 31
     go true e = ltb-true x (2 ^ 31) e
@@ -67,24 +67,24 @@ signed-small x h = go (ltb x (2 ^ 31)) refl
 pub word_small : (bs : List ℕ) → All Byte bs → number (take 4 bs) < 2 ^ 32
 word_small bs h = number_small 4 (take 4 bs) (bytes_take 4 bs h) (simp length-take (omega arith))
 
-pub unsigneds-small : (n : ℕ) (bs : List ℕ) → All Byte bs → All (λ x. x < 2 ^ 32) (unsigneds n bs)
-unsigneds-small zero bs h = tt
-unsigneds-small (suc n) bs h = (word_small bs h, unsigneds-small n (drop 4 bs) (bytes_drop 4 bs h))
+pub unsigneds_small : (n : ℕ) (bs : List ℕ) → All Byte bs → All (λ x. x < 2 ^ 32) (unsigneds n bs)
+unsigneds_small zero bs h = tt
+unsigneds_small (suc n) bs h = (word_small bs h, unsigneds_small n (drop 4 bs) (bytes_drop 4 bs h))
 
-pub signeds-small : (n : ℕ) (bs : List ℕ) → All Byte bs → All (λ z. mag z < 2 ^ 31) (signeds n bs)
-signeds-small n bs h = all-image (λ z. mag z < 2 ^ 31) signed (unsigneds n bs) (all_map (λ x. x < 2 ^ 32) (λ x. mag (signed x) < 2 ^ 31) signed-small (unsigneds n bs) (unsigneds-small n bs h))
+pub signeds_small : (n : ℕ) (bs : List ℕ) → All Byte bs → All (λ z. mag z < 2 ^ 31) (signeds n bs)
+signeds_small n bs h = all_image (λ z. mag z < 2 ^ 31) signed (unsigneds n bs) (all_map (λ x. x < 2 ^ 32) (λ x. mag (signed x) < 2 ^ 31) signed_small (unsigneds n bs) (unsigneds_small n bs h))
 
-word_bytes : (bs : List ℕ) → All Byte bs → 4 ≤ length bs → numberBytes 4 (number (take 4 bs)) ≡ take 4 bs
-word_bytes bs h l = ap (λ n. numberBytes n (number (take 4 bs))) (sym (length-take-le 4 bs l)) ∙ numberBytes-number (take 4 bs) (bytes_take 4 bs h)
+word_bytes : (bs : List ℕ) → All Byte bs → 4 ≤ length bs → number_bytes 4 (number (take 4 bs)) ≡ take 4 bs
+word_bytes bs h l = ap (λ n. number_bytes n (number (take 4 bs))) (sym (length-take-le 4 bs l)) ∙ number_bytes_number (take 4 bs) (bytes_take 4 bs h)
 
-pub unsignedBytes-unsigneds : (n : ℕ) (bs : List ℕ) → All Byte bs → length bs ≡ 4 * n → unsignedBytes (unsigneds n bs) ≡ bs
-unsignedBytes-unsigneds zero [] h l = refl
-unsignedBytes-unsigneds zero (b ∷ bs) h l = absurd (omega arith)
-unsignedBytes-unsigneds (suc n) bs h l = ap₂ ◌++◌ (word_bytes bs h (omega arith)) (unsignedBytes-unsigneds n (drop 4 bs) (bytes_drop 4 bs h) (simp length-drop (omega arith))) ∙ take-append-drop 4 bs
+pub unsigned_bytes_unsigneds : (n : ℕ) (bs : List ℕ) → All Byte bs → length bs ≡ 4 * n → unsigned_bytes (unsigneds n bs) ≡ bs
+unsigned_bytes_unsigneds zero [] h l = refl
+unsigned_bytes_unsigneds zero (b ∷ bs) h l = absurd (omega arith)
+unsigned_bytes_unsigneds (suc n) bs h l = ap₂ ◌++◌ (word_bytes bs h (omega arith)) (unsigned_bytes_unsigneds n (drop 4 bs) (bytes_drop 4 bs h) (simp length-drop (omega arith))) ∙ take-append-drop 4 bs
 
 bits_back : (xs : List ℕ) → All (λ x. x < 2 ^ 32) xs → map bits (map signed xs) ≡ xs
 bits_back [] h = refl
-bits_back (x ∷ xs) h = ap₂ ◌∷◌ (bits-signed x h.0) (bits_back xs h.1)
+bits_back (x ∷ xs) h = ap₂ ◌∷◌ (bits_signed x h.0) (bits_back xs h.1)
 
-pub signedBytes-signeds : (n : ℕ) (bs : List ℕ) → All Byte bs → length bs ≡ 4 * n → signedBytes (signeds n bs) ≡ bs
-signedBytes-signeds n bs h l = ap unsignedBytes (bits_back (unsigneds n bs) (unsigneds-small n bs h)) ∙ unsignedBytes-unsigneds n bs h l
+pub signed_bytes_signeds : (n : ℕ) (bs : List ℕ) → All Byte bs → length bs ≡ 4 * n → signed_bytes (signeds n bs) ≡ bs
+signed_bytes_signeds n bs h l = ap unsigned_bytes (bits_back (unsigneds n bs) (unsigneds_small n bs h)) ∙ unsigned_bytes_unsigneds n bs h l

@@ -1,18 +1,18 @@
 -- Only an accepted lot has the number 0.
 use Rattle.std.specs.Prelude.{◌≡◌, refl}
 use Rattle.std.proofs.Common.{arith}
-use Rattle.lot_format.specs.Reading.{Unreadable, tooLong, cutShort, unknownMark, wrongLength, outOfPlace, badByte, tooManyElements, noRoom, unreadableNumber, Reading, readable, unreadable, lotOf, readingNumber}
+use Rattle.lot_format.specs.Reading.{Unreadable, too_long, cut_short, unknown_mark, wrong_length, out_of_place, bad_byte, too_many_elements, no_room, unreadable_number, Reading, readable, unreadable, lot_of, reading_number}
 
-pub not-zero : {X : Type 0} (r : Unreadable) → unreadableNumber r ≡ 0 → X
-not-zero tooLong e = absurd (omega arith)
-not-zero cutShort e = absurd (omega arith)
-not-zero unknownMark e = absurd (omega arith)
-not-zero wrongLength e = absurd (omega arith)
-not-zero outOfPlace e = absurd (omega arith)
-not-zero badByte e = absurd (omega arith)
-not-zero tooManyElements e = absurd (omega arith)
-not-zero noRoom e = absurd (omega arith)
+pub not_zero : {X : Type 0} (r : Unreadable) → unreadable_number r ≡ 0 → X
+not_zero too_long e = absurd (omega arith)
+not_zero cut_short e = absurd (omega arith)
+not_zero unknown_mark e = absurd (omega arith)
+not_zero wrong_length e = absurd (omega arith)
+not_zero out_of_place e = absurd (omega arith)
+not_zero bad_byte e = absurd (omega arith)
+not_zero too_many_elements e = absurd (omega arith)
+not_zero no_room e = absurd (omega arith)
 
-pub zero-accepted : (r : Reading) → readingNumber r ≡ 0 → r ≡ readable (lotOf r)
-zero-accepted (readable lot) e = refl
-zero-accepted (unreadable r) e = not-zero r e
+pub zero_accepted : (r : Reading) → reading_number r ≡ 0 → r ≡ readable (lot_of r)
+zero_accepted (readable lot) e = refl
+zero_accepted (unreadable r) e = not_zero r e

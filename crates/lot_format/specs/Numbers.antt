@@ -1,6 +1,6 @@
 -- Document 01, "House rules for later papers": "Numbers in our files stand low byte first." Bytes are numbers below 256.
 use Rattle.std.specs.Prelude.{true, false, List, [], ◌∷◌, map, ℕ, zero, suc, ◌+◌, ◌-◌, ◌*◌, ◌/◌, ◌%◌, ◌^◌, ◌<◌, ltb, take, drop, ℤ, pos, negsuc}
-use Rattle.foundation.specs.Lists.{concatMap}
+use Rattle.foundation.specs.Lists.{concat_map}
 
 abbrev pub Byte : ℕ → Type 0
 Byte b = b < 256
@@ -11,9 +11,9 @@ number [] = 0
 number (b ∷ bs) = b + 256 * number bs
 
 -- the n bytes of a number
-abbrev pub numberBytes : ℕ → ℕ → List ℕ
-numberBytes zero x = []
-numberBytes (suc n) x = x % 256 ∷ numberBytes n (x / 256)
+abbrev pub number_bytes : ℕ → ℕ → List ℕ
+number_bytes zero x = []
+number_bytes (suc n) x = x % 256 ∷ number_bytes n (x / 256)
 
 -- "signed 32-bit": a number from the 32 bits of its two's complement, and these bits
 unfoldable pub signed : ℕ → ℤ
@@ -32,8 +32,8 @@ abbrev pub signeds : ℕ → List ℕ → List ℤ
 signeds n bs = map signed (unsigneds n bs)
 
 -- their bytes
-abbrev pub unsignedBytes : List ℕ → List ℕ
-unsignedBytes xs = concatMap (numberBytes 4) xs
+abbrev pub unsigned_bytes : List ℕ → List ℕ
+unsigned_bytes xs = concat_map (number_bytes 4) xs
 
-abbrev pub signedBytes : List ℤ → List ℕ
-signedBytes xs = unsignedBytes (map bits xs)
+abbrev pub signed_bytes : List ℤ → List ℕ
+signed_bytes xs = unsigned_bytes (map bits xs)

@@ -2,7 +2,7 @@
 // callers that the groups fit together. Every answer is an equation with `Naming` of the crate `lot_format`.
 ghost use Rattle.std.specs.Prelude.{◌≡◌, [], ◌+◌, ◌≤◌, min, length, take, drop};
 ghost use Rattle.lot_format.specs.Runs.{groups_of};
-ghost use Rattle.lot_format.specs.Naming.{nameInForce, placeInForce, name_of};
+ghost use Rattle.lot_format.specs.Naming.{name_in_force, place_in_force, name_of};
 ghost use Rattle.lot_group_names.specs.Place.{place_of};
 
 // A part of the names laid end to end.
@@ -30,8 +30,8 @@ fn wide(x: u32) -> usize
 // numbers, and a name ends where the names end.
 pub fn part_in_force(names: &[u8], lengths: &[u32], offsets: &[u32], element: u32) -> Part
     ensures len_in_bounds { result.start + result.len ≤ length names.now }
-    ensures names_value { take result.len (drop result.start names.now) ≡ nameInForce [] (groups_of names.now lengths.now offsets.now) element }
-    ensures start_value { result.start ≡ placeInForce 0 0 (groups_of names.now lengths.now offsets.now) element }
+    ensures names_value { take result.len (drop result.start names.now) ≡ name_in_force [] (groups_of names.now lengths.now offsets.now) element }
+    ensures start_value { result.start ≡ place_in_force 0 0 (groups_of names.now lengths.now offsets.now) element }
 {
     let mut part = Part { start: 0, len: 0 };
     let mut at = 0;

@@ -2,8 +2,8 @@
 // Every answer is an equation with `Groups` of the crate `lot_format`.
 ghost use Rattle.std.specs.Prelude.{◌≡◌, eqb, length};
 ghost use Rattle.foundation.specs.Lists.{sum};
-ghost use Rattle.lot_format.specs.Format.{lotFile};
-ghost use Rattle.lot_format.specs.Groups.{rising, fitTogether, allUpTo, shortNames, cleanNames};
+ghost use Rattle.lot_format.specs.Format.{lot_file};
+ghost use Rattle.lot_format.specs.Groups.{rising, fit_together, all_up_to, short_names, clean_names};
 
 // Whether lengths add up to n.
 fn add_up(lengths: &[u32], n: usize) -> bool
@@ -40,7 +40,7 @@ fn rise(offsets: &[u32], n: usize) -> bool
 
 // Whether no length passes n.
 fn up_to(lengths: &[u32], n: usize) -> bool
-    ensures { result ≡ allUpTo n lengths.now }
+    ensures { result ≡ all_up_to n lengths.now }
 {
     for k in 0..lengths.len() {
         if n < lengths[k] as usize {
@@ -52,7 +52,7 @@ fn up_to(lengths: &[u32], n: usize) -> bool
 
 // Whether groups fit together, where there are so many bytes of names and so many elements.
 pub fn fit_together(lengths: &[u32], offsets: &[u32], names: usize, elements: usize) -> bool
-    ensures { result ≡ fitTogether lengths.now offsets.now names elements }
+    ensures { result ≡ fit_together lengths.now offsets.now names elements }
 {
     if lengths.len() != offsets.len() {
         return false;
@@ -65,7 +65,7 @@ pub fn fit_together(lengths: &[u32], offsets: &[u32], names: usize, elements: us
 
 // Whether the label and the names are short enough.
 pub fn short_names(label: usize, lengths: &[u32]) -> bool
-    ensures { result ≡ shortNames lotFile label lengths.now }
+    ensures { result ≡ short_names lot_file label lengths.now }
 {
     if limits::MAX_NAME < label {
         return false;
@@ -75,7 +75,7 @@ pub fn short_names(label: usize, lengths: &[u32]) -> bool
 
 // Whether all bytes of the label and of the names may stand there.
 pub fn clean_names(label: &[u8], names: &[u8]) -> bool
-    ensures { result ≡ cleanNames label.now names.now }
+    ensures { result ≡ clean_names label.now names.now }
 {
     if !lot_entry_reader::name_bytes(label) {
         return false;

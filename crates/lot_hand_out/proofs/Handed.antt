@@ -8,21 +8,21 @@ use native.Mathlib.Omega.{arith}
 use lib.ListN.{get_or, length, take, drop, length-append, length-drop}
 use lib.Seq.{drop-drop}
 use lib.IntN.{ℤ}
-use Rattle.foundation.specs.Laid.{put, laidOver, length-laid, put-behind}
+use Rattle.foundation.specs.Laid.{put, laid_over, length_laid, put_behind}
 use Rattle.lot_format.specs.Numbers.{number}
-use Rattle.lot_format.specs.Format.{lotFile, Lot, Mark, mark_of, rightLength, Stage, atLabel, stageAfter}
-use Rattle.lot_format.specs.Runs.{Runs, names_of, lengthsOf, offsetsOf, runsOf}
-use Rattle.lot_format.specs.Reading.{wholeEntry, entry_of, contents, joined, hasEnded, readLot, lotOf}
-use Rattle.lot_format.specs.Joined.{names-append, lengths-append, offsets-append}
+use Rattle.lot_format.specs.Format.{lot_file, Lot, Mark, mark_of, right_length, Stage, at_label, stage_after}
+use Rattle.lot_format.specs.Runs.{Runs, names_of, lengths_of, offsets_of, runs_of}
+use Rattle.lot_format.specs.Reading.{whole_entry, entry_of, contents, joined, has_ended, read_lot, lot_of}
+use Rattle.lot_format.specs.Joined.{names_append, lengths_append, offsets_append}
 use Rattle.lot_format.specs.Entries.{whole_is}
-use Rattle.lot_format.specs.Reached.{Next, Grows, reached-next, reached-grows, reached-all}
-use Rattle.lot_format.specs.Accepted.{accepted-short}
+use Rattle.lot_format.specs.Reached.{Next, Grows, reached_next, reached_grows, reached_all}
+use Rattle.lot_format.specs.Accepted.{accepted_short}
 use Rattle.lot_scan.specs.declared.Counts.{Counts}
-use Rattle.lot_scan.specs.Meaning.{noCounts, countedOf, Small}
+use Rattle.lot_scan.specs.Meaning.{no_counts, counted_of, Small}
 use Rattle.lot_entry_hand_out.specs.Meaning.{Fitting}
 use Rattle.lot_hand_out.specs.Meaning.{Handable}
-use Rattle.lot_scan.specs.Seen.{Seen, before, seen_start, seen-whole, seen-whole-lot, seen-small}
-use Rattle.lot_scan.specs.Scans.{as-many-lengths, as-many-offsets}
+use Rattle.lot_scan.specs.Seen.{Seen, before, seen_start, seen_whole, seen_whole_lot, seen_small}
+use Rattle.lot_scan.specs.Scans.{as_many_lengths, as_many_offsets}
 use Rattle.lot_entry_hand_out.specs.EntryRuns.{Laid}
 
 -- the five lent runs
@@ -35,11 +35,11 @@ pub record Lent : Type 0 where
 
 -- runs laid over lent ones
 pub record Over (x : Runs) (before now : Lent) : Type 0 where
-  pub nodes : now.nodes ≡ laidOver x.nodes before.nodes
-  pub elements : now.elements ≡ laidOver x.elements before.elements
-  pub names : now.names ≡ laidOver x.names before.names
-  pub lengths : now.lengths ≡ laidOver x.lengths before.lengths
-  pub offsets : now.offsets ≡ laidOver x.offsets before.offsets
+  pub nodes : now.nodes ≡ laid_over x.nodes before.nodes
+  pub elements : now.elements ≡ laid_over x.elements before.elements
+  pub names : now.names ≡ laid_over x.names before.names
+  pub lengths : now.lengths ≡ laid_over x.lengths before.lengths
+  pub offsets : now.offsets ≡ laid_over x.offsets before.offsets
 
 -- how long each run is, in five parts; how long the runs of a joined lot are
 pub record Long (x : Runs) (a b c d e : ℕ) : Type 0 where
@@ -50,42 +50,42 @@ pub record Long (x : Runs) (a b c d e : ℕ) : Type 0 where
   pub offsets : length x.offsets ≡ e
 
 module _ (a b : Lot) where
-  long-joined : Long (runsOf (joined a b)) (length (runsOf a).nodes + length (runsOf b).nodes) (length (runsOf a).elements + length (runsOf b).elements) (length (runsOf a).names + length (runsOf b).names)
-      (length (runsOf a).lengths + length (runsOf b).lengths) (length (runsOf a).offsets + length (runsOf b).offsets)
-  long-joined = record {
+  long_joined : Long (runs_of (joined a b)) (length (runs_of a).nodes + length (runs_of b).nodes) (length (runs_of a).elements + length (runs_of b).elements) (length (runs_of a).names + length (runs_of b).names)
+      (length (runs_of a).lengths + length (runs_of b).lengths) (length (runs_of a).offsets + length (runs_of b).offsets)
+  long_joined = record {
     nodes = length-append a.nodes b.nodes;
     elements = length-append a.elements b.elements;
-    names = ap length (names-append a.groups b.groups) ∙ length-append (names_of a.groups) (names_of b.groups);
-    lengths = ap length (lengths-append a.groups b.groups) ∙ length-append (lengthsOf a.groups) (lengthsOf b.groups);
-    offsets = ap length (offsets-append a.groups b.groups) ∙ length-append (offsetsOf a.groups) (offsetsOf b.groups);
+    names = ap length (names_append a.groups b.groups) ∙ length-append (names_of a.groups) (names_of b.groups);
+    lengths = ap length (lengths_append a.groups b.groups) ∙ length-append (lengths_of a.groups) (lengths_of b.groups);
+    offsets = ap length (offsets_append a.groups b.groups) ∙ length-append (offsets_of a.groups) (offsets_of b.groups);
   }
 
 -- ---- how far the handing out has come
 pub record Handed (file : List ℕ) (lent now : Lent) (at : ℕ) (n : Counts) : Type 0 where
   pub stage : Stage
   pub seen : Seen file at stage n
-  pub over : Over (runsOf seen.lot) lent now
+  pub over : Over (runs_of seen.lot) lent now
 
 -- as long as the counts tell
-long-seen : {file : List ℕ} {at : ℕ} {stage : Stage} {n : Counts} (x : Seen file at stage n) → Long (runsOf x.lot) (3 * n.nodes) (8 * n.elements) n.names n.groups n.groups
-long-seen x = let t = x.tells in record {
+long_seen : {file : List ℕ} {at : ℕ} {stage : Stage} {n : Counts} (x : Seen file at stage n) → Long (runs_of x.lot) (3 * n.nodes) (8 * n.elements) n.names n.groups n.groups
+long_seen x = let t = x.tells in record {
   nodes = t.nodes;
   elements = t.elements;
   names = t.names;
-  lengths = as-many-lengths x.lot.groups ∙ t.groups;
-  offsets = as-many-offsets x.lot.groups ∙ t.groups;
+  lengths = as_many_lengths x.lot.groups ∙ t.groups;
+  offsets = as_many_offsets x.lot.groups ∙ t.groups;
 }
 
 -- the entry that stands at a place, by its mark and the length it gives
 pub record Here (file : List ℕ) (at : ℕ) (stage : Stage) (n : Counts) (m : Mark) (len : ℕ) : Type 0 where
-  pub unread : hasEnded stage ≡ false
-  pub found : entry_of lotFile stage n.elements (drop at file) ≡ wholeEntry m (take len (drop 4 (drop at file)))
-  pub right : rightLength lotFile m len ≡ true
+  pub unread : has_ended stage ≡ false
+  pub found : entry_of lot_file stage n.elements (drop at file) ≡ whole_entry m (take len (drop 4 (drop at file)))
+  pub right : right_length lot_file m len ≡ true
   pub fits : 4 + len ≤ length (drop at file)
 
-module _ {file : List ℕ} {at : ℕ} {stage : Stage} {n : Counts} (x : Seen file at stage n) (next : Next lotFile file at stage x.lot) where
-  pub not-unknown : {X : Type 0} → mark_of (get_or (drop at file) 0 0) (get_or (drop at file) 1 0) ≡ none → X
-  not-unknown e = let known = (whole_is next.found).mark in let z : ◌≡◌ {A = ℕ} 0 1 = cc in absurd (omega arith)
+module _ {file : List ℕ} {at : ℕ} {stage : Stage} {n : Counts} (x : Seen file at stage n) (next : Next lot_file file at stage x.lot) where
+  pub not_unknown : {X : Type 0} → mark_of (get_or (drop at file) 0 0) (get_or (drop at file) 1 0) ≡ none → X
+  not_unknown e = let known = (whole_is next.found).mark in let z : ◌≡◌ {A = ℕ} 0 1 = cc in absurd (omega arith)
 
   pub here : (m : Mark) (len : ℕ) → mark_of (get_or (drop at file) 0 0) (get_or (drop at file) 1 0) ≡ some m → len ≡ number (take 2 (drop 2 (drop at file))) → Here file at stage n m len
   here m len e l =
@@ -95,14 +95,14 @@ module _ {file : List ℕ} {at : ℕ} {stage : Stage} {n : Counts} (x : Seen fil
       let body : next.body ≡ take len (drop 4 (drop at file)) = sym w.stands ∙ ap (λ (k : ℕ). take k (drop 4 (drop at file))) long in
       record {
         unread = next.unread;
-        found = ap (λ (k : ℕ). entry_of lotFile stage k (drop at file)) (before file x) ∙ next.found ∙ ap₂ wholeEntry same body;
-        right = subst (λ (k : ℕ). rightLength lotFile m k ≡ true) long (subst (λ (k : Mark). rightLength lotFile k (length next.body) ≡ true) same w.right);
+        found = ap (λ (k : ℕ). entry_of lot_file stage k (drop at file)) (before file x) ∙ next.found ∙ ap₂ whole_entry same body;
+        right = subst (λ (k : ℕ). right_length lot_file m k ≡ true) long (subst (λ (k : Mark). right_length lot_file k (length next.body) ≡ true) same w.right);
         fits = subst (λ (k : ℕ). 4 + k ≤ length (drop at file)) long w.fits;
       }
 
 -- one run with more behind
-over-next : {A : Type 0} (xs ys zs space now : List A) {at : ℕ} {then : List A} → now ≡ laidOver xs space → length xs ≡ at → then ≡ put at ys now → xs ++ ys ≡ zs → then ≡ laidOver zs space
-over-next xs ys zs space now e l f g = f ∙ ap₂ (λ k s. put k ys s) (sym l) e ∙ put-behind xs ys space ∙ ap (λ z. laidOver z space) g
+over_next : {A : Type 0} (xs ys zs space now : List A) {at : ℕ} {then : List A} → now ≡ laid_over xs space → length xs ≡ at → then ≡ put at ys now → xs ++ ys ≡ zs → then ≡ laid_over zs space
+over_next xs ys zs space now e l f g = f ∙ ap₂ (λ k s. put k ys s) (sym l) e ∙ put_behind xs ys space ∙ ap (λ z. laid_over z space) g
 
 -- runs that fit the lent ones
 pub record Fit (lent : Lent) (x : Runs) : Type 0 where
@@ -112,101 +112,101 @@ pub record Fit (lent : Lent) (x : Runs) : Type 0 where
   pub lengths : length x.lengths ≤ length lent.lengths
   pub offsets : length x.offsets ≤ length lent.offsets
 
-module _ (file : List ℕ) (lent : Lent) (h : Handable (readLot lotFile file) (length lent.nodes) (length lent.elements) (length lent.names) (length lent.lengths) (length lent.offsets)) where
-  short : length file ≤ lotFile.bytes
-  short = accepted-short lotFile file (lotOf (readLot lotFile file)) h.good
+module _ (file : List ℕ) (lent : Lent) (h : Handable (read_lot lot_file file) (length lent.nodes) (length lent.elements) (length lent.names) (length lent.lengths) (length lent.offsets)) where
+  short : length file ≤ lot_file.bytes
+  short = accepted_short lot_file file (lot_of (read_lot lot_file file)) h.good
 
-  pub handed-start : Handed file lent lent 0 noCounts
+  pub handed_start : Handed file lent lent 0 no_counts
   unfolding seen_start
-  handed-start = record { stage = atLabel; seen = seen_start file short; over = record { nodes = refl; elements = refl; names = refl; lengths = refl; offsets = refl } }
+  handed_start = record { stage = at_label; seen = seen_start file short; over = record { nodes = refl; elements = refl; names = refl; lengths = refl; offsets = refl } }
 
-  all_fit : Fit lent (runsOf (lotOf (readLot lotFile file)))
-  all_fit = record { nodes = h.nodes-fit; elements = h.elements-fit; names = h.names-fit; lengths = h.lengths-fit; offsets = h.offsets-fit }
+  all_fit : Fit lent (runs_of (lot_of (read_lot lot_file file)))
+  all_fit = record { nodes = h.nodes_fit; elements = h.elements_fit; names = h.names_fit; lengths = h.lengths_fit; offsets = h.offsets_fit }
 
-  part-fits : (lot : Lot) → Grows lot (lotOf (readLot lotFile file)) → Fit lent (runsOf lot)
-  part-fits lot g =
-      let l = long-joined lot g.more in
-      let f = subst (λ (x : Lot). Fit lent (runsOf x)) g.is-joined all_fit in
+  part_fits : (lot : Lot) → Grows lot (lot_of (read_lot lot_file file)) → Fit lent (runs_of lot)
+  part_fits lot g =
+      let l = long_joined lot g.more in
+      let f = subst (λ (x : Lot). Fit lent (runs_of x)) g.is_joined all_fit in
       record { nodes = omega (arith, l.nodes, f.nodes); elements = omega (arith, l.elements, f.elements); names = omega (arith, l.names, f.names); lengths = omega (arith, l.lengths, f.lengths); offsets = omega (arith, l.offsets, f.offsets) }
 
-  seen-fits : {at : ℕ} {stage : Stage} {n : Counts} (x : Seen file at stage n) → Fit lent (runsOf x.lot)
-  seen-fits x = part-fits x.lot (reached-grows lotFile file (lotOf (readLot lotFile file)) h.good x.reached)
+  seen_fits : {at : ℕ} {stage : Stage} {n : Counts} (x : Seen file at stage n) → Fit lent (runs_of x.lot)
+  seen_fits x = part_fits x.lot (reached_grows lot_file file (lot_of (read_lot lot_file file)) h.good x.reached)
 
   module _ {now : Lent} {at : ℕ} {n : Counts} (x : Handed file lent now at n) where
-    pub handed-next : at < length file → Next lotFile file at x.stage x.seen.lot
-    handed-next = reached-next lotFile file (lotOf (readLot lotFile file)) h.good x.seen.reached
+    pub handed_next : at < length file → Next lot_file file at x.stage x.seen.lot
+    handed_next = reached_next lot_file file (lot_of (read_lot lot_file file)) h.good x.seen.reached
 
-    pub four-left : at < length file → at + 4 ≤ length file
-    four-left l = omega (arith, (whole_is (handed-next l).found).fits, length-drop at file, x.seen.reached.within)
+    pub four_left : at < length file → at + 4 ≤ length file
+    four_left l = omega (arith, (whole_is (handed_next l).found).fits, length-drop at file, x.seen.reached.within)
 
-    pub short-file : length file ≤ lotFile.bytes
-    short-file = short
+    pub short_file : length file ≤ lot_file.bytes
+    short_file = short
 
     -- the lent runs keep their lengths
     pub same_nodes : length now.nodes ≡ length lent.nodes
-    same_nodes = ap length x.over.nodes ∙ length-laid (runsOf x.seen.lot).nodes lent.nodes (seen-fits x.seen).nodes
+    same_nodes = ap length x.over.nodes ∙ length_laid (runs_of x.seen.lot).nodes lent.nodes (seen_fits x.seen).nodes
 
-    pub same-elements : length now.elements ≡ length lent.elements
-    same-elements = ap length x.over.elements ∙ length-laid (runsOf x.seen.lot).elements lent.elements (seen-fits x.seen).elements
+    pub same_elements : length now.elements ≡ length lent.elements
+    same_elements = ap length x.over.elements ∙ length_laid (runs_of x.seen.lot).elements lent.elements (seen_fits x.seen).elements
 
     pub same_names : length now.names ≡ length lent.names
-    same_names = ap length x.over.names ∙ length-laid (runsOf x.seen.lot).names lent.names (seen-fits x.seen).names
+    same_names = ap length x.over.names ∙ length_laid (runs_of x.seen.lot).names lent.names (seen_fits x.seen).names
 
-    pub same-lengths : length now.lengths ≡ length lent.lengths
-    same-lengths = ap length x.over.lengths ∙ length-laid (runsOf x.seen.lot).lengths lent.lengths (seen-fits x.seen).lengths
+    pub same_lengths : length now.lengths ≡ length lent.lengths
+    same_lengths = ap length x.over.lengths ∙ length_laid (runs_of x.seen.lot).lengths lent.lengths (seen_fits x.seen).lengths
 
-    pub same-offsets : length now.offsets ≡ length lent.offsets
-    same-offsets = ap length x.over.offsets ∙ length-laid (runsOf x.seen.lot).offsets lent.offsets (seen-fits x.seen).offsets
+    pub same_offsets : length now.offsets ≡ length lent.offsets
+    same_offsets = ap length x.over.offsets ∙ length_laid (runs_of x.seen.lot).offsets lent.offsets (seen_fits x.seen).offsets
 
-    pub handed-all : length file ≤ at → Over (runsOf (lotOf (readLot lotFile file))) lent now
-    handed-all l = subst (λ (lot : Lot). Over (runsOf lot) lent now) (reached-all lotFile file (lotOf (readLot lotFile file)) h.good x.seen.reached l) x.over
+    pub handed_all : length file ≤ at → Over (runs_of (lot_of (read_lot lot_file file))) lent now
+    handed_all l = subst (λ (lot : Lot). Over (runs_of lot) lent now) (reached_all lot_file file (lot_of (read_lot lot_file file)) h.good x.seen.reached l) x.over
 
     module _ {m : Mark} {len : ℕ} (e : Here file at x.stage n m len) where
-      pub within-file : at + 4 + len ≤ length file
-      within-file = omega (arith, e.fits, length-drop at file, x.seen.reached.within)
+      pub within_file : at + 4 + len ≤ length file
+      within_file = omega (arith, e.fits, length-drop at file, x.seen.reached.within)
 
-      pub small-here : Small len n
-      small-here = seen-small file len x.seen short (omega (arith, short, within-file))
+      pub small_here : Small len n
+      small_here = seen_small file len x.seen short (omega (arith, short, within_file))
 
-      seen-then : Seen file (at + 4 + len) (stageAfter m) (countedOf m len n)
-      seen-then = seen-whole file len x.seen e.unread e.found e.fits
+      seen_then : Seen file (at + 4 + len) (stage_after m) (counted_of m len n)
+      seen_then = seen_whole file len x.seen e.unread e.found e.fits
 
       -- the lot with what the entry holds behind
-      abbrev next-lot : Lot
-      next-lot = contents m (take len (drop (at + 4) file)) n.elements
+      abbrev next_lot : Lot
+      next_lot = contents m (take len (drop (at + 4) file)) n.elements
 
-      lot-then : seen-then.lot ≡ joined x.seen.lot next-lot
-      unfolding seen-then
-      lot-then = seen-whole-lot file len x.seen e.unread e.found e.fits ∙ ap₂ (λ (b : List ℕ) (k : ℕ). joined x.seen.lot (contents m (take len b) k)) (drop-drop 4 at file) (sym (before file x.seen))
+      lot_then : seen_then.lot ≡ joined x.seen.lot next_lot
+      unfolding seen_then
+      lot_then = seen_whole_lot file len x.seen e.unread e.found e.fits ∙ ap₂ (λ (b : List ℕ) (k : ℕ). joined x.seen.lot (contents m (take len b) k)) (drop-drop 4 at file) (sym (before file x.seen))
 
-      pub handed-fits : Fitting m file (at + 4) len n (length now.nodes) (length now.elements) (length now.names) (length now.lengths) (length now.offsets)
-      handed-fits =
-          let f = subst (λ (lot : Lot). Fit lent (runsOf lot)) lot-then (seen-fits seen-then) in
-          let l = long-joined x.seen.lot next-lot in
-          let k = long-seen x.seen in
+      pub handed_fits : Fitting m file (at + 4) len n (length now.nodes) (length now.elements) (length now.names) (length now.lengths) (length now.offsets)
+      handed_fits =
+          let f = subst (λ (lot : Lot). Fit lent (runs_of lot)) lot_then (seen_fits seen_then) in
+          let l = long_joined x.seen.lot next_lot in
+          let k = long_seen x.seen in
           record {
             right = e.right;
-            within = within-file;
-            small = small-here;
-            nodes-fit = omega (arith, f.nodes, l.nodes, k.nodes, same_nodes);
-            elements-fit = omega (arith, f.elements, l.elements, k.elements, same-elements);
-            names-fit = omega (arith, f.names, l.names, k.names, same_names);
-            lengths-fit = omega (arith, f.lengths, l.lengths, k.lengths, same-lengths);
-            offsets-fit = omega (arith, f.offsets, l.offsets, k.offsets, same-offsets);
+            within = within_file;
+            small = small_here;
+            nodes_fit = omega (arith, f.nodes, l.nodes, k.nodes, same_nodes);
+            elements_fit = omega (arith, f.elements, l.elements, k.elements, same_elements);
+            names_fit = omega (arith, f.names, l.names, k.names, same_names);
+            lengths_fit = omega (arith, f.lengths, l.lengths, k.lengths, same_lengths);
+            offsets_fit = omega (arith, f.offsets, l.offsets, k.offsets, same_offsets);
           }
 
-      pub handed-then : {then : Lent} {n' : Counts}
+      pub handed_then : {then : Lent} {n' : Counts}
           → Laid m file (at + 4) len n now.nodes now.elements now.names now.lengths now.offsets then.nodes then.elements then.names then.lengths then.offsets
-          → n' ≡ countedOf m len n → Handed file lent then (at + 4 + len) n'
-      handed-then {then} {n'} p q =
+          → n' ≡ counted_of m len n → Handed file lent then (at + 4 + len) n'
+      handed_then {then} {n'} p q =
           let a = x.seen.lot in
-          let k = long-seen x.seen in
+          let k = long_seen x.seen in
           let o = x.over in
-          let over : Over (runsOf (joined a next-lot)) lent then = record {
-            nodes = over-next a.nodes next-lot.nodes _ lent.nodes now.nodes o.nodes k.nodes p.0 refl;
-            elements = over-next a.elements next-lot.elements _ lent.elements now.elements o.elements k.elements p.1.0 refl;
-            names = over-next (names_of a.groups) (names_of next-lot.groups) _ lent.names now.names o.names k.names p.1.1.0 (sym (names-append a.groups next-lot.groups));
-            lengths = over-next (lengthsOf a.groups) (lengthsOf next-lot.groups) _ lent.lengths now.lengths o.lengths k.lengths p.1.1.1.0 (sym (lengths-append a.groups next-lot.groups));
-            offsets = over-next (offsetsOf a.groups) (offsetsOf next-lot.groups) _ lent.offsets now.offsets o.offsets k.offsets p.1.1.1.1 (sym (offsets-append a.groups next-lot.groups));
+          let over : Over (runs_of (joined a next_lot)) lent then = record {
+            nodes = over_next a.nodes next_lot.nodes _ lent.nodes now.nodes o.nodes k.nodes p.0 refl;
+            elements = over_next a.elements next_lot.elements _ lent.elements now.elements o.elements k.elements p.1.0 refl;
+            names = over_next (names_of a.groups) (names_of next_lot.groups) _ lent.names now.names o.names k.names p.1.1.0 (sym (names_append a.groups next_lot.groups));
+            lengths = over_next (lengths_of a.groups) (lengths_of next_lot.groups) _ lent.lengths now.lengths o.lengths k.lengths p.1.1.1.0 (sym (lengths_append a.groups next_lot.groups));
+            offsets = over_next (offsets_of a.groups) (offsets_of next_lot.groups) _ lent.offsets now.offsets o.offsets k.offsets p.1.1.1.1 (sym (offsets_append a.groups next_lot.groups));
           } in
-          subst (Handed file lent then (at + 4 + len)) (sym q) (record { stage = stageAfter m; seen = seen-then; over = subst (λ (lot : Lot). Over (runsOf lot) lent then) (sym lot-then) over })
+          subst (Handed file lent then (at + 4 + len)) (sym q) (record { stage = stage_after m; seen = seen_then; over = subst (λ (lot : Lot). Over (runs_of lot) lent then) (sym lot_then) over })

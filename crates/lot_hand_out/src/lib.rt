@@ -1,10 +1,10 @@
 // Handing out what a lot file holds, to lent space that is large enough for it.
 // An inner crate: only the reader calls it, and it meets what each `requires` asks.
-// Every answer is an equation with `Reading` of the crate `lot_format` at the limits `lotFile`.
+// Every answer is an equation with `Reading` of the crate `lot_format` at the limits `lot_file`.
 ghost use Rattle.std.specs.Prelude.{◌≡◌, ◌+◌, ◌<◌, length};
-ghost use Rattle.foundation.specs.Laid.{laidOver};
-ghost use Rattle.lot_format.specs.Format.{lotFile};
-ghost use Rattle.lot_format.specs.Reading.{readLot, handedOut};
+ghost use Rattle.foundation.specs.Laid.{laid_over};
+ghost use Rattle.lot_format.specs.Format.{lot_file};
+ghost use Rattle.lot_format.specs.Reading.{read_lot, handed_out};
 ghost use Rattle.lot_hand_out.specs.Meaning.{Handable};
 
 use lot_marks::Marked;
@@ -18,12 +18,12 @@ pub fn hand_out(
     lengths: &mut [u32],
     offsets: &mut [u32],
 )
-    requires { Handable (readLot lotFile file.now) (length nodes.old) (length elements.old) (length names.old) (length lengths.old) (length offsets.old) }
-    ensures nodes_after { nodes.new ≡ laidOver (handedOut (readLot lotFile file.now)).nodes nodes.old }
-    ensures elements_after { elements.new ≡ laidOver (handedOut (readLot lotFile file.now)).elements elements.old }
-    ensures names_after { names.new ≡ laidOver (handedOut (readLot lotFile file.now)).names names.old }
-    ensures lengths_after { lengths.new ≡ laidOver (handedOut (readLot lotFile file.now)).lengths lengths.old }
-    ensures offsets_after { offsets.new ≡ laidOver (handedOut (readLot lotFile file.now)).offsets offsets.old }
+    requires { Handable (read_lot lot_file file.now) (length nodes.old) (length elements.old) (length names.old) (length lengths.old) (length offsets.old) }
+    ensures nodes_after { nodes.new ≡ laid_over (handed_out (read_lot lot_file file.now)).nodes nodes.old }
+    ensures elements_after { elements.new ≡ laid_over (handed_out (read_lot lot_file file.now)).elements elements.old }
+    ensures names_after { names.new ≡ laid_over (handed_out (read_lot lot_file file.now)).names names.old }
+    ensures lengths_after { lengths.new ≡ laid_over (handed_out (read_lot lot_file file.now)).lengths lengths.old }
+    ensures offsets_after { offsets.new ≡ laid_over (handed_out (read_lot lot_file file.now)).offsets offsets.old }
 {
     let mut at = 0;
     let mut n = lot_scan::nothing();

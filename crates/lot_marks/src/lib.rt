@@ -1,9 +1,9 @@
 // The marks of a lot file's entries: their letters, which stand where, and how long a body they have. An inner crate, for those that read and write entries.
-// Every answer is an equation with `Format` and `Reading` of the crate `lot_format` at the limits `lotFile`.
+// Every answer is an equation with `Format` and `Reading` of the crate `lot_format` at the limits `lot_file`.
 ghost use Rattle.std.specs.Prelude.{◌≡◌, true, ◌/◌, ◌%◌};
-ghost use Rattle.lot_format.specs.Format.{lotFile, mark_of, rightLength, inPlace, stageAfter};
-ghost use Rattle.lot_format.specs.Reading.{hasEnded};
-ghost use Rattle.lot_marks.specs.Meaning.{markHeld, markedHeld, stageHeld};
+ghost use Rattle.lot_format.specs.Format.{lot_file, mark_of, right_length, in_place, stage_after};
+ghost use Rattle.lot_format.specs.Reading.{has_ended};
+ghost use Rattle.lot_marks.specs.Meaning.{mark_held, marked_held, stage_held};
 
 use limits::MAX_NAME;
 
@@ -46,7 +46,7 @@ pub enum Stage {
 
 // The mark whose two letters are the low and the high byte of a number.
 pub fn mark_of(letters: u32) -> Marked
-    ensures { markedHeld result ≡ mark_of (letters % 256) (letters / 256) }
+    ensures { marked_held result ≡ mark_of (letters % 256) (letters / 256) }
 {
     if letters == LETTERS_ND {
         return Marked::Known(Mark::ND);
@@ -68,7 +68,7 @@ pub fn mark_of(letters: u32) -> Marked
 
 // Whether a mark is in place at a stage.
 pub fn in_place(stage: Stage, mark: Mark) -> bool
-    ensures { result ≡ inPlace (stageHeld stage) (markHeld mark) }
+    ensures { result ≡ in_place (stage_held stage) (mark_held mark) }
 {
     match stage {
         Stage::AtLabel => match mark {
@@ -98,7 +98,7 @@ pub fn in_place(stage: Stage, mark: Mark) -> bool
 
 // The stage after a mark.
 pub fn stage_after(mark: Mark) -> Stage
-    ensures { stageHeld result ≡ stageAfter (markHeld mark) }
+    ensures { stage_held result ≡ stage_after (mark_held mark) }
 {
     match mark {
         Mark::LB => Stage::AtNodes,
@@ -111,7 +111,7 @@ pub fn stage_after(mark: Mark) -> Stage
 
 // Whether a body may have this length.
 pub fn right_length(mark: Mark, n: usize) -> bool
-    ensures { result ≡ rightLength lotFile (markHeld mark) n }
+    ensures { result ≡ right_length lot_file (mark_held mark) n }
 {
     match mark {
         Mark::LB => n <= MAX_NAME,
@@ -125,7 +125,7 @@ pub fn right_length(mark: Mark, n: usize) -> bool
 // The length of an entry's body, where it gives n and that is right. For a node, an element and the end this is known from the mark, so that the next
 // entry is found without waiting for n to be read.
 pub fn body_length(mark: Mark, n: usize) -> usize
-    requires { rightLength lotFile (markHeld mark) n ≡ true }
+    requires { right_length lot_file (mark_held mark) n ≡ true }
     ensures { result ≡ n }
 {
     match mark {
@@ -139,7 +139,7 @@ pub fn body_length(mark: Mark, n: usize) -> usize
 
 // Whether the end was read.
 pub fn has_ended(stage: Stage) -> bool
-    ensures { result ≡ hasEnded (stageHeld stage) }
+    ensures { result ≡ has_ended (stage_held stage) }
 {
     match stage {
         Stage::AtLabel => false,

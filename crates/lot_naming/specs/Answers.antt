@@ -5,60 +5,60 @@ use Rattle.std.proofs.Math.Option.{Option, none, some}
 use Rattle.std.proofs.Common.{arith}
 use Rattle.lot_format.specs.Format.{FileLimits, Group}
 use Rattle.lot_format.specs.Runs.{groups_of}
-use Rattle.lot_format.specs.Groups.{firstFailed, fitTogether, shortNames, cleanNames}
-use Rattle.lot_format.specs.Naming.{name_of, Unnamed, groupsApart, nameTooLong, badByte, noSuchElement, unnamedNumber, namingTests, Naming, named, unnamed, naming, nameGiven, namingNumber}
-use Rattle.lot_naming.specs.Place.{placeGiven}
+use Rattle.lot_format.specs.Groups.{first_failed, fit_together, short_names, clean_names}
+use Rattle.lot_format.specs.Naming.{name_of, Unnamed, groups_apart, name_too_long, bad_byte, no_such_element, unnamed_number, naming_tests, Naming, named, unnamed, naming, name_given, naming_number}
+use Rattle.lot_naming.specs.Place.{place_given}
 
 -- no refusal has the number 0
-not-zero : (r : Unnamed) → unnamedNumber r ≡ 0 → ⊥
-not-zero groupsApart e = absurd (omega arith)
-not-zero nameTooLong e = absurd (omega arith)
-not-zero badByte e = absurd (omega arith)
-not-zero noSuchElement e = absurd (omega arith)
+not_zero : (r : Unnamed) → unnamed_number r ≡ 0 → ⊥
+not_zero groups_apart e = absurd (omega arith)
+not_zero name_too_long e = absurd (omega arith)
+not_zero bad_byte e = absurd (omega arith)
+not_zero no_such_element e = absurd (omega arith)
 
 module _ (F : FileLimits) (label names lengths offsets : List ℕ) (elements e : ℕ) where
   abbrev pub answer : Naming
   answer = naming F label names lengths offsets elements e
 
   -- ---- test by test
-  pub are-apart : fitTogether lengths offsets (length names) elements ≡ false → answer ≡ unnamed groupsApart
+  pub are_apart : fit_together lengths offsets (length names) elements ≡ false → answer ≡ unnamed groups_apart
   unfolding naming
-  are-apart a = rw (a, naming)
+  are_apart a = rw (a, naming)
 
-  module _ (fit : fitTogether lengths offsets (length names) elements ≡ true) where
-    pub are-long : shortNames F (length label) lengths ≡ false → answer ≡ unnamed nameTooLong
+  module _ (fit : fit_together lengths offsets (length names) elements ≡ true) where
+    pub are_long : short_names F (length label) lengths ≡ false → answer ≡ unnamed name_too_long
     unfolding naming
-    are-long a = rw (fit, a, naming)
+    are_long a = rw (fit, a, naming)
 
-    module _ (short : shortNames F (length label) lengths ≡ true) where
-      pub are-wrong : cleanNames label names ≡ false → answer ≡ unnamed badByte
+    module _ (short : short_names F (length label) lengths ≡ true) where
+      pub are_wrong : clean_names label names ≡ false → answer ≡ unnamed bad_byte
       unfolding naming
-      are-wrong a = rw (fit, short, a, naming)
+      are_wrong a = rw (fit, short, a, naming)
 
-      module _ (clean : cleanNames label names ≡ true) where
-        pub is_none : ltb e elements ≡ false → answer ≡ unnamed noSuchElement
+      module _ (clean : clean_names label names ≡ true) where
+        pub is_none : ltb e elements ≡ false → answer ≡ unnamed no_such_element
         unfolding naming
         is_none a = rw (fit, short, clean, a, naming)
 
-        pub is-named : ltb e elements ≡ true → answer ≡ named (name_of label (groups_of names lengths offsets) e)
+        pub is_named : ltb e elements ≡ true → answer ≡ named (name_of label (groups_of names lengths offsets) e)
         unfolding naming
-        is-named a = rw (fit, short, clean, a, naming)
+        is_named a = rw (fit, short, clean, a, naming)
 
   -- ---- the number
-  pub zero-named : namingNumber answer ≡ 0 → answer ≡ named (name_of label (groups_of names lengths offsets) e)
+  pub zero_named : naming_number answer ≡ 0 → answer ≡ named (name_of label (groups_of names lengths offsets) e)
   unfolding naming
-  zero-named z = go (firstFailed (namingTests F label names lengths offsets elements e)) z
+  zero_named z = go (first_failed (naming_tests F label names lengths offsets elements e)) z
     where
-      go : (o : Option Unnamed) → namingNumber (elim o [ none ↦ named (name_of label (groups_of names lengths offsets) e) | some r ↦ unnamed r ]) ≡ 0
+      go : (o : Option Unnamed) → naming_number (elim o [ none ↦ named (name_of label (groups_of names lengths offsets) e) | some r ↦ unnamed r ]) ≡ 0
           → ◌≡◌ {A = Naming} (elim o [ none ↦ named (name_of label (groups_of names lengths offsets) e) | some r ↦ unnamed r ]) (named (name_of label (groups_of names lengths offsets) e))
       go none z = refl
-      go (some r) z = absurd (not-zero r z)
+      go (some r) z = absurd (not_zero r z)
 
 -- another number is that of a refusal
-pub other-nothing : (n : Naming) → (namingNumber n ≡ 0 → ⊥) → nameGiven n ≡ []
-other-nothing (named name) h = absurd (h refl)
-other-nothing (unnamed r) h = refl
+pub other_nothing : (n : Naming) → (naming_number n ≡ 0 → ⊥) → name_given n ≡ []
+other_nothing (named name) h = absurd (h refl)
+other_nothing (unnamed r) h = refl
 
-pub other_place : (label names : ℕ × ℕ) (gs : List Group) (e : ℕ) (n : Naming) → (namingNumber n ≡ 0 → ⊥) → placeGiven label names gs e n ≡ label
+pub other_place : (label names : ℕ × ℕ) (gs : List Group) (e : ℕ) (n : Naming) → (naming_number n ≡ 0 → ⊥) → place_given label names gs e n ≡ label
 other_place label names gs e (named name) h = absurd (h refl)
 other_place label names gs e (unnamed r) h = refl

@@ -1,10 +1,10 @@
 // Naming an element: the service `name_of`, and `refusal_of` for callers that want only the number. Nothing has to be checked first: each
-// takes any lists and numbers, and states its whole answer as equations with `Naming` of the crate `lot_format` at the limits `lotFile`.
+// takes any lists and numbers, and states its whole answer as equations with `Naming` of the crate `lot_format` at the limits `lot_file`.
 ghost use Rattle.std.specs.Prelude.{◌≡◌, [], ◌∷◌};
-ghost use Rattle.lot_format.specs.Format.{lotFile};
+ghost use Rattle.lot_format.specs.Format.{lot_file};
 ghost use Rattle.lot_format.specs.Runs.{groups_of};
-ghost use Rattle.lot_format.specs.Naming.{naming, nameGiven, namingNumber};
-ghost use Rattle.lot_naming.specs.Place.{placeGiven};
+ghost use Rattle.lot_format.specs.Naming.{naming, name_given, naming_number};
+ghost use Rattle.lot_naming.specs.Place.{place_given};
 
 // The number that answers: 0 where an element of so many has a name, or the number of the first test that fails. 24 the groups do not fit
 // together, 23 the label or a name is too long, 25 a byte of them is wrong, 28 there is no such element.
@@ -16,7 +16,7 @@ pub fn refusal_of(
     elements: u32,
     element: u32,
 ) -> u32
-    ensures { result ≡ namingNumber (naming lotFile label.now names.now lengths.now offsets.now elements element) }
+    ensures { result ≡ naming_number (naming lot_file label.now names.now lengths.now offsets.now elements element) }
 {
     let together = lot_groups::fit_together(lengths, offsets, names.len(), elements as usize);
     let short = lot_groups::short_names(label.len(), lengths);
@@ -48,9 +48,9 @@ pub fn name_of<'a>(
     element: u32,
     number: &mut [u32; 1],
 ) -> &'a [u8]
-    ensures result_value { result.now ≡ nameGiven (naming lotFile label.now names.now lengths.now offsets.now elements element) }
-    ensures number_after { number.new ≡ namingNumber (naming lotFile label.now names.now lengths.now offsets.now elements element) ∷ [] }
-    ensures ref_ptr_value { result.ref_ptr ≡ placeGiven label.entry.ref_ptr names.entry.ref_ptr (groups_of names.now lengths.now offsets.now) element (naming lotFile label.now names.now lengths.now offsets.now elements element) }
+    ensures result_value { result.now ≡ name_given (naming lot_file label.now names.now lengths.now offsets.now elements element) }
+    ensures number_after { number.new ≡ naming_number (naming lot_file label.now names.now lengths.now offsets.now elements element) ∷ [] }
+    ensures ref_ptr_value { result.ref_ptr ≡ place_given label.entry.ref_ptr names.entry.ref_ptr (groups_of names.now lengths.now offsets.now) element (naming lot_file label.now names.now lengths.now offsets.now elements element) }
 {
     let refusal = refusal_of(label, names, lengths, offsets, elements, element);
     *number = [refusal];

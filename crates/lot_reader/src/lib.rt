@@ -1,18 +1,18 @@
 // Reading a lot file: the service `read`. Nothing has to be checked first: it takes any bytes and any lent space, and states its whole
-// answer, every word of lent space included, as an equation with `Reading` of the crate `lot_format` at the limits `lotFile`.
+// answer, every word of lent space included, as an equation with `Reading` of the crate `lot_format` at the limits `lot_file`.
 // A file is gone through twice: first for a fault, then, where it has none and the lent space is large enough, to hand out what it holds.
 ghost use Rattle.std.specs.Prelude.{◌≡◌, ◌+◌};
-ghost use Rattle.foundation.specs.Laid.{laidOver};
-ghost use Rattle.lot_format.specs.Format.{lotFile};
-ghost use Rattle.lot_format.specs.Reading.{readInto, handedOut, labelPlace, readingNumbers, unreadableNumber};
-ghost use Rattle.lot_entry_reader.specs.Meaning.{unreadableHeld};
+ghost use Rattle.foundation.specs.Laid.{laid_over};
+ghost use Rattle.lot_format.specs.Format.{lot_file};
+ghost use Rattle.lot_format.specs.Reading.{read_into, handed_out, label_place, reading_numbers, unreadable_number};
+ghost use Rattle.lot_entry_reader.specs.Meaning.{unreadable_held};
 
 use lot_entry_reader::Unreadable;
 use lot_scan::{Room, Scan};
 
 // The number of a refusal.
 fn refusal_number(r: Unreadable) -> u32
-    ensures { result ≡ unreadableNumber (unreadableHeld r) }
+    ensures { result ≡ unreadable_number (unreadable_held r) }
 {
     match r {
         Unreadable::TooLong => 20,
@@ -40,14 +40,14 @@ pub fn read<'a>(
     offsets: &mut [u32],
     answer: &mut [u32; 5],
 ) -> &'a [u8]
-    ensures result_value { result.now ≡ (handedOut (readInto lotFile file.now nodes.old elements.old names.old lengths.old offsets.old)).label }
-    ensures nodes_after { nodes.new ≡ laidOver (handedOut (readInto lotFile file.now nodes.old elements.old names.old lengths.old offsets.old)).nodes nodes.old }
-    ensures elements_after { elements.new ≡ laidOver (handedOut (readInto lotFile file.now nodes.old elements.old names.old lengths.old offsets.old)).elements elements.old }
-    ensures names_after { names.new ≡ laidOver (handedOut (readInto lotFile file.now nodes.old elements.old names.old lengths.old offsets.old)).names names.old }
-    ensures lengths_after { lengths.new ≡ laidOver (handedOut (readInto lotFile file.now nodes.old elements.old names.old lengths.old offsets.old)).lengths lengths.old }
-    ensures offsets_after { offsets.new ≡ laidOver (handedOut (readInto lotFile file.now nodes.old elements.old names.old lengths.old offsets.old)).offsets offsets.old }
-    ensures answer_after { answer.new ≡ readingNumbers (readInto lotFile file.now nodes.old elements.old names.old lengths.old offsets.old) }
-    ensures ref_ptr_value { result.ref_ptr ≡ (file.entry.ref_ptr.0, labelPlace (readInto lotFile file.now nodes.old elements.old names.old lengths.old offsets.old) + file.entry.ref_ptr.1) }
+    ensures result_value { result.now ≡ (handed_out (read_into lot_file file.now nodes.old elements.old names.old lengths.old offsets.old)).label }
+    ensures nodes_after { nodes.new ≡ laid_over (handed_out (read_into lot_file file.now nodes.old elements.old names.old lengths.old offsets.old)).nodes nodes.old }
+    ensures elements_after { elements.new ≡ laid_over (handed_out (read_into lot_file file.now nodes.old elements.old names.old lengths.old offsets.old)).elements elements.old }
+    ensures names_after { names.new ≡ laid_over (handed_out (read_into lot_file file.now nodes.old elements.old names.old lengths.old offsets.old)).names names.old }
+    ensures lengths_after { lengths.new ≡ laid_over (handed_out (read_into lot_file file.now nodes.old elements.old names.old lengths.old offsets.old)).lengths lengths.old }
+    ensures offsets_after { offsets.new ≡ laid_over (handed_out (read_into lot_file file.now nodes.old elements.old names.old lengths.old offsets.old)).offsets offsets.old }
+    ensures answer_after { answer.new ≡ reading_numbers (read_into lot_file file.now nodes.old elements.old names.old lengths.old offsets.old) }
+    ensures ref_ptr_value { result.ref_ptr ≡ (file.entry.ref_ptr.0, label_place (read_into lot_file file.now nodes.old elements.old names.old lengths.old offsets.old) + file.entry.ref_ptr.1) }
 {
     let room = Room {
         nodes: nodes.len(),

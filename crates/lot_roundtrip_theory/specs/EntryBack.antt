@@ -3,83 +3,83 @@ use Rattle.std.specs.Prelude.{◌≡◌, refl, true, false, List, [], ◌++◌, 
 use Rattle.std.proofs.Common.{sym, ◌∙◌, ap, subst, arith, leb-true, eqb-true, length-append, drop_at}
 use Rattle.std.proofs.Math.Option.{none, some}
 use Rattle.std.proofs.Math.Seq.{take-append_seam}
-use Rattle.lot_format.specs.Numbers.{number, numberBytes}
-use Rattle.lot_format.specs.Format.{FileLimits, Lot, Mark, LB, ND, HX, GR, EN, mark_of, rightLength, Stage, atLabel, atNodes, atElements, atEnd, inPlace, stageAfter, entryBytes}
-use Rattle.lot_format.specs.Reading.{bodyFault, wholeEntry, entry_of, taken, Reading, readable, hasEnded, readFrom}
-use Rattle.lot_format.specs.Steps.{entry_known, known-body, body-right, read_whole, read-ended}
+use Rattle.lot_format.specs.Numbers.{number, number_bytes}
+use Rattle.lot_format.specs.Format.{FileLimits, Lot, Mark, LB, ND, HX, GR, EN, mark_of, right_length, Stage, at_label, at_nodes, at_elements, at_end, in_place, stage_after, entry_bytes}
+use Rattle.lot_format.specs.Reading.{body_fault, whole_entry, entry_of, taken, Reading, readable, has_ended, read_from}
+use Rattle.lot_format.specs.Steps.{entry_known, known_body, body_right, read_whole, read_ended}
 use Rattle.lot_format.specs.Enough.{enough}
-use Rattle.lot_roundtrip_theory.specs.Lengths.{length-entryBytes}
-use Rattle.lot_roundtrip_theory.specs.NumbersBack.{number-numberBytes}
+use Rattle.lot_roundtrip_theory.specs.Lengths.{length_entry_bytes}
+use Rattle.lot_roundtrip_theory.specs.NumbersBack.{number_number_bytes}
 
 -- ---- the head of an entry
-head-mark : (m : Mark) (body rest : List ℕ) → mark_of (get_or (entryBytes m body ++ rest) 0 0) (get_or (entryBytes m body ++ rest) 1 0) ≡ some m
+head_mark : (m : Mark) (body rest : List ℕ) → mark_of (get_or (entry_bytes m body ++ rest) 0 0) (get_or (entry_bytes m body ++ rest) 1 0) ≡ some m
 unfolding mark_of
-head-mark LB body rest = refl
-head-mark ND body rest = refl
-head-mark HX body rest = refl
-head-mark GR body rest = refl
-head-mark EN body rest = refl
+head_mark LB body rest = refl
+head_mark ND body rest = refl
+head_mark HX body rest = refl
+head_mark GR body rest = refl
+head_mark EN body rest = refl
 
-head-says : (m : Mark) (body rest : List ℕ) → take 2 (drop 2 (entryBytes m body ++ rest)) ≡ numberBytes 2 (length body)
-head-says LB body rest = refl
-head-says ND body rest = refl
-head-says HX body rest = refl
-head-says GR body rest = refl
-head-says EN body rest = refl
+head_says : (m : Mark) (body rest : List ℕ) → take 2 (drop 2 (entry_bytes m body ++ rest)) ≡ number_bytes 2 (length body)
+head_says LB body rest = refl
+head_says ND body rest = refl
+head_says HX body rest = refl
+head_says GR body rest = refl
+head_says EN body rest = refl
 
-head-rest : (m : Mark) (body rest : List ℕ) → drop 4 (entryBytes m body ++ rest) ≡ body ++ rest
-head-rest LB body rest = refl
-head-rest ND body rest = refl
-head-rest HX body rest = refl
-head-rest GR body rest = refl
-head-rest EN body rest = refl
+head_rest : (m : Mark) (body rest : List ℕ) → drop 4 (entry_bytes m body ++ rest) ≡ body ++ rest
+head_rest LB body rest = refl
+head_rest ND body rest = refl
+head_rest HX body rest = refl
+head_rest GR body rest = refl
+head_rest EN body rest = refl
 
 -- a right length is a number of two bytes
-right-short : (F : FileLimits) (m : Mark) (n : ℕ) → F.name < 65536 → rightLength F m n ≡ true → n < 65536
-right-short F LB n h e = omega (arith, leb-true n F.name e)
-right-short F ND n h e = omega (arith, eqb-true n 12 e)
-right-short F HX n h e = omega (arith, eqb-true n 32 e)
-right-short F GR n h e = omega (arith, leb-true n F.name e)
-right-short F EN n h e = omega (arith, eqb-true n 0 e)
+right_short : (F : FileLimits) (m : Mark) (n : ℕ) → F.name < 65536 → right_length F m n ≡ true → n < 65536
+right_short F LB n h e = omega (arith, leb-true n F.name e)
+right_short F ND n h e = omega (arith, eqb-true n 12 e)
+right_short F HX n h e = omega (arith, eqb-true n 32 e)
+right_short F GR n h e = omega (arith, leb-true n F.name e)
+right_short F EN n h e = omega (arith, eqb-true n 0 e)
 
 -- what an entry has to be, where so many elements stand before it
 pub record Right (F : FileLimits) (stage : Stage) (n : ℕ) (m : Mark) (body : List ℕ) : Type 0 where
-  pub placed : inPlace stage m ≡ true
-  pub right : rightLength F m (length body) ≡ true
-  pub clear : bodyFault F m n body ≡ none
+  pub placed : in_place stage m ≡ true
+  pub right : right_length F m (length body) ≡ true
+  pub clear : body_fault F m n body ≡ none
 
 -- an entry can only be in place before the end
-before-end : (stage : Stage) (m : Mark) → inPlace stage m ≡ true → hasEnded stage ≡ false
-before-end atLabel m e = refl
-before-end atNodes m e = refl
-before-end atElements m e = refl
-before-end atEnd m e = absurd (subst T (sym e) tt)
+before_end : (stage : Stage) (m : Mark) → in_place stage m ≡ true → has_ended stage ≡ false
+before_end at_label m e = refl
+before_end at_nodes m e = refl
+before_end at_elements m e = refl
+before_end at_end m e = absurd (subst T (sym e) tt)
 
 -- all the bytes that are left, read
 abbrev pub read_on : FileLimits → Stage → Lot → List ℕ → Reading
-read_on F stage lot bytes = readFrom F (suc (length bytes)) stage lot bytes
+read_on F stage lot bytes = read_from F (suc (length bytes)) stage lot bytes
 
 module _ (F : FileLimits) where
   module _ (name : F.name < 65536) (stage : Stage) (m : Mark) (body rest : List ℕ) where
-    entry-back : {n : ℕ} → Right F stage n m body → entry_of F stage n (entryBytes m body ++ rest) ≡ wholeEntry m body
-    entry-back {n} h =
-        let long : length (entryBytes m body ++ rest) ≡ 4 + length body + length rest = length-append (entryBytes m body) rest ∙ omega (arith, length-entryBytes m body) in
-        let says : length body ≡ number (take 2 (drop 2 (entryBytes m body ++ rest))) = sym (ap number (head-says m body rest) ∙ number-numberBytes 2 (length body) (right-short F m (length body) name h.right)) in
+    entry_back : {n : ℕ} → Right F stage n m body → entry_of F stage n (entry_bytes m body ++ rest) ≡ whole_entry m body
+    entry_back {n} h =
+        let long : length (entry_bytes m body ++ rest) ≡ 4 + length body + length rest = length-append (entry_bytes m body) rest ∙ omega (arith, length_entry_bytes m body) in
+        let says : length body ≡ number (take 2 (drop 2 (entry_bytes m body ++ rest))) = sym (ap number (head_says m body rest) ∙ number_number_bytes 2 (length body) (right_short F m (length body) name h.right)) in
         let stands : take (length body) (body ++ rest) ≡ body = take-append_seam body rest in
-        entry_known F stage n (entryBytes m body ++ rest) (omega arith) (head-mark m body rest)
-        ∙ known-body F stage m n (entryBytes m body ++ rest) h.placed says h.right
-        ∙ rw (head-rest m body rest) (body-right F m n (length body) (body ++ rest) (simp length-append (omega arith)) (rw stands h.clear))
-        ∙ ap (wholeEntry m) stands
+        entry_known F stage n (entry_bytes m body ++ rest) (omega arith) (head_mark m body rest)
+        ∙ known_body F stage m n (entry_bytes m body ++ rest) h.placed says h.right
+        ∙ rw (head_rest m body rest) (body_right F m n (length body) (body ++ rest) (simp length-append (omega arith)) (rw stands h.clear))
+        ∙ ap (whole_entry m) stands
 
     -- one entry, read
-    pub read-entry : (lot : Lot) → Right F stage (length lot.elements / 8) m body → read_on F stage lot (entryBytes m body ++ rest) ≡ read_on F (stageAfter m) (taken m body lot) rest
-    read-entry lot h =
-        let head = length-entryBytes m body in
-        let long = length-append (entryBytes m body) rest in
-        read_whole F (length (entryBytes m body ++ rest)) stage lot (entryBytes m body ++ rest) (before-end stage m h.placed) (entry-back h)
-        ∙ ap (readFrom F (length (entryBytes m body ++ rest)) (stageAfter m) (taken m body lot)) (drop_at (entryBytes m body) rest (4 + length body) head)
-        ∙ enough F (length (entryBytes m body ++ rest)) (suc (length rest)) (stageAfter m) (taken m body lot) rest (omega arith) (omega arith)
+    pub read_entry : (lot : Lot) → Right F stage (length lot.elements / 8) m body → read_on F stage lot (entry_bytes m body ++ rest) ≡ read_on F (stage_after m) (taken m body lot) rest
+    read_entry lot h =
+        let head = length_entry_bytes m body in
+        let long = length-append (entry_bytes m body) rest in
+        read_whole F (length (entry_bytes m body ++ rest)) stage lot (entry_bytes m body ++ rest) (before_end stage m h.placed) (entry_back h)
+        ∙ ap (read_from F (length (entry_bytes m body ++ rest)) (stage_after m) (taken m body lot)) (drop_at (entry_bytes m body) rest (4 + length body) head)
+        ∙ enough F (length (entry_bytes m body ++ rest)) (suc (length rest)) (stage_after m) (taken m body lot) rest (omega arith) (omega arith)
 
   -- nothing left, after the end
-  pub read-end : (lot : Lot) → read_on F atEnd lot [] ≡ readable lot
-  read-end lot = read-ended F 0 atEnd lot [] refl
+  pub read_end : (lot : Lot) → read_on F at_end lot [] ≡ readable lot
+  read_end lot = read_ended F 0 at_end lot [] refl

@@ -3,35 +3,35 @@ use Rattle.std.specs.Prelude.{◌≡◌, refl, List, ℕ, ◌*◌, length}
 use Rattle.std.proofs.Common.{arith}
 use Rattle.std.proofs.lemmas.List.{length-map}
 use Rattle.lot_format.specs.Format.{Group}
-use Rattle.lot_format.specs.Runs.{names_of, lengthsOf, offsetsOf, runsOf}
-use Rattle.lot_format.specs.Reading.{Unreadable, Reading, readable, unreadable, room_for, lotOf}
+use Rattle.lot_format.specs.Runs.{names_of, lengths_of, offsets_of, runs_of}
+use Rattle.lot_format.specs.Reading.{Unreadable, Reading, readable, unreadable, room_for, lot_of}
 use Rattle.lot_scan.specs.declared.Counts.{Counts}
 use Rattle.lot_scan.specs.declared.Room.{Room}
-use Rattle.lot_scan.specs.Meaning.{holds, fails, scanOf, roomHeld, hasRoom, IsAccepted}
+use Rattle.lot_scan.specs.Meaning.{holds, fails, scan_of, room_held, has_room, IsAccepted}
 
-pub scan-fails : {w : Unreadable} (r : Reading) → fails w ≡ scanOf r → r ≡ unreadable w
-scan-fails (readable lot) e = let z : ◌≡◌ {A = ℕ} 0 1 = cc in absurd (omega arith)
-scan-fails (unreadable w) e = cc
+pub scan_fails : {w : Unreadable} (r : Reading) → fails w ≡ scan_of r → r ≡ unreadable w
+scan_fails (readable lot) e = let z : ◌≡◌ {A = ℕ} 0 1 = cc in absurd (omega arith)
+scan_fails (unreadable w) e = cc
 
 -- a file that is accepted, with the lengths of what it holds
 pub record Accepts (r : Reading) (label nodes elements groups names : ℕ) : Type 0 where
   pub good : IsAccepted r
-  pub label-long : length (lotOf r).label ≡ label
-  pub nodes-long : length (lotOf r).nodes ≡ nodes
-  pub elements-long : length (lotOf r).elements ≡ elements
-  pub groups-long : length (lotOf r).groups ≡ groups
-  pub names-long : length (names_of (lotOf r).groups) ≡ names
+  pub label_long : length (lot_of r).label ≡ label
+  pub nodes_long : length (lot_of r).nodes ≡ nodes
+  pub elements_long : length (lot_of r).elements ≡ elements
+  pub groups_long : length (lot_of r).groups ≡ groups
+  pub names_long : length (names_of (lot_of r).groups) ≡ names
 
-pub scan-holds : {label nodes elements groups names : ℕ} (r : Reading) → holds label nodes elements groups names ≡ scanOf r → Accepts r label nodes elements groups names
-scan-holds (readable lot) e = record { good = refl; label-long = cc; nodes-long = cc; elements-long = cc; groups-long = cc; names-long = cc }
-scan-holds (unreadable w) e = let z : ◌≡◌ {A = ℕ} 0 1 = cc in absurd (omega arith)
+pub scan_holds : {label nodes elements groups names : ℕ} (r : Reading) → holds label nodes elements groups names ≡ scan_of r → Accepts r label nodes elements groups names
+scan_holds (readable lot) e = record { good = refl; label_long = cc; nodes_long = cc; elements_long = cc; groups_long = cc; names_long = cc }
+scan_holds (unreadable w) e = let z : ◌≡◌ {A = ℕ} 0 1 = cc in absurd (omega arith)
 
 -- a group has a word of the lengths and one of the counts
-pub as-many-lengths : (gs : List Group) → length (lengthsOf gs) ≡ length gs
-as-many-lengths gs = length-map gs (λ (g : Group). length g.name)
+pub as_many_lengths : (gs : List Group) → length (lengths_of gs) ≡ length gs
+as_many_lengths gs = length-map gs (λ (g : Group). length g.name)
 
-pub as-many-offsets : (gs : List Group) → length (offsetsOf gs) ≡ length gs
-as-many-offsets gs = length-map gs (λ (g : Group). g.offset)
+pub as_many_offsets : (gs : List Group) → length (offsets_of gs) ≡ length gs
+as_many_offsets gs = length-map gs (λ (g : Group). g.offset)
 
-pub room-same : {label : ℕ} (n : Counts) (r : Reading) (room : Room) → Accepts r label (3 * n.nodes) (8 * n.elements) n.groups n.names → room_for (runsOf (lotOf r)) (roomHeld room) ≡ hasRoom n room
-room-same n r room a = let gs = (lotOf r).groups in rw (a.nodes-long, a.elements-long, a.names-long, as-many-lengths gs, as-many-offsets gs, a.groups-long)
+pub room_same : {label : ℕ} (n : Counts) (r : Reading) (room : Room) → Accepts r label (3 * n.nodes) (8 * n.elements) n.groups n.names → room_for (runs_of (lot_of r)) (room_held room) ≡ has_room n room
+room_same n r room a = let gs = (lot_of r).groups in rw (a.nodes_long, a.elements_long, a.names_long, as_many_lengths gs, as_many_offsets gs, a.groups_long)

@@ -1,11 +1,11 @@
 // The scan of a lot file: its first fault, or how much it holds, and whether the lent space is large enough for it.
 // An inner crate: only the reader's own crates call it, and they meet what each `requires` asks.
-// Every answer is an equation with `Reading` of the crate `lot_format` at the limits `lotFile`.
+// Every answer is an equation with `Reading` of the crate `lot_format` at the limits `lot_file`.
 ghost use Rattle.std.specs.Prelude.{◌≡◌};
-ghost use Rattle.lot_format.specs.Format.{lotFile};
-ghost use Rattle.lot_format.specs.Reading.{readLot, reading};
-ghost use Rattle.lot_marks.specs.Meaning.{markHeld};
-ghost use Rattle.lot_scan.specs.Meaning.{noCounts, countedOf, Small, scanHeld, scanOf, Few, roomHeld, hasRoom};
+ghost use Rattle.lot_format.specs.Format.{lot_file};
+ghost use Rattle.lot_format.specs.Reading.{read_lot, reading};
+ghost use Rattle.lot_marks.specs.Meaning.{mark_held};
+ghost use Rattle.lot_scan.specs.Meaning.{no_counts, counted_of, Small, scan_held, scan_of, Few, room_held, has_room};
 
 use lot_entry_reader::{Entry, Unreadable};
 use lot_marks::{Mark, Stage};
@@ -39,7 +39,7 @@ pub struct Room {
 
 // The counts before any entry.
 pub fn nothing() -> Counts
-    ensures { result ≡ noCounts }
+    ensures { result ≡ no_counts }
 {
     Counts {
         label: 0,
@@ -53,7 +53,7 @@ pub fn nothing() -> Counts
 // The counts with one entry more, whose body has so many bytes. Only one label is read.
 pub fn counted(mark: Mark, len: usize, n: Counts) -> Counts
     requires { Small len n }
-    ensures { result ≡ countedOf (markHeld mark) len n }
+    ensures { result ≡ counted_of (mark_held mark) len n }
 {
     let mut m = n;
     match mark {
@@ -80,7 +80,7 @@ pub fn counted(mark: Mark, len: usize, n: Counts) -> Counts
 
 // The first fault of a file, or what it holds.
 fn scan_file(file: &[u8]) -> Scan
-    ensures result_value { scanHeld result ≡ scanOf (readLot lotFile file.now) }
+    ensures result_value { scan_held result ≡ scan_of (read_lot lot_file file.now) }
     ensures few { Few result }
 {
     if limits::MAX_BYTES < file.len() {
@@ -112,7 +112,7 @@ fn scan_file(file: &[u8]) -> Scan
 // Whether there is room for so much.
 fn has_room(n: Counts, room: Room) -> bool
     requires { Small 0 n }
-    ensures { result ≡ hasRoom n room }
+    ensures { result ≡ has_room n room }
 {
     (3 * n.nodes <= room.nodes)
         & ((8 * n.elements <= room.elements)
@@ -121,7 +121,7 @@ fn has_room(n: Counts, room: Room) -> bool
 
 // What the scan of a file finds, and 27 where what it holds does not fit the lent runs.
 pub fn scan_with_room(file: &[u8], room: Room) -> Scan
-    ensures result_value { scanHeld result ≡ scanOf (reading lotFile file.now (roomHeld room)) }
+    ensures result_value { scan_held result ≡ scan_of (reading lot_file file.now (room_held room)) }
     ensures few { Few result }
 {
     let found = scan_file(file);

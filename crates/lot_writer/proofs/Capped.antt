@@ -2,29 +2,29 @@
 use mathlib.Core.Path.{◌≡◌, ◌∙◌}
 use Prim.Native.Nat.{ℕ}
 use native.Mathlib.Omega.{arith}
-use Rattle.lot_roundtrip_theory.specs.Lengths.{lengthBy}
+use Rattle.lot_roundtrip_theory.specs.Lengths.{length_by}
 use Rattle.lot_writer.specs.Meaning.{capped}
 
 module _ (label nodes elements groups names : ℕ) where
-  cap-label : capped (lengthBy (capped label) nodes elements groups names) ≡ capped (lengthBy label nodes elements groups names)
-  cap-label = omega arith
+  cap_label : capped (length_by (capped label) nodes elements groups names) ≡ capped (length_by label nodes elements groups names)
+  cap_label = omega arith
 
-  cap-nodes : capped (lengthBy label (capped nodes) elements groups names) ≡ capped (lengthBy label nodes elements groups names)
-  cap-nodes = omega arith
+  cap_nodes : capped (length_by label (capped nodes) elements groups names) ≡ capped (length_by label nodes elements groups names)
+  cap_nodes = omega arith
 
-  cap-elements : capped (lengthBy label nodes (capped elements) groups names) ≡ capped (lengthBy label nodes elements groups names)
-  cap-elements = omega arith
+  cap_elements : capped (length_by label nodes (capped elements) groups names) ≡ capped (length_by label nodes elements groups names)
+  cap_elements = omega arith
 
-  cap-groups : capped (lengthBy label nodes elements (capped groups) names) ≡ capped (lengthBy label nodes elements groups names)
-  cap-groups = omega arith
+  cap_groups : capped (length_by label nodes elements (capped groups) names) ≡ capped (length_by label nodes elements groups names)
+  cap_groups = omega arith
 
-  cap-names : capped (lengthBy label nodes elements groups (capped names)) ≡ capped (lengthBy label nodes elements groups names)
-  cap-names = omega arith
+  cap_names : capped (length_by label nodes elements groups (capped names)) ≡ capped (length_by label nodes elements groups names)
+  cap_names = omega arith
 
-pub cap-all : (label nodes elements groups names : ℕ) → capped (lengthBy (capped label) (capped nodes) (capped elements) (capped groups) (capped names)) ≡ capped (lengthBy label nodes elements groups names)
-cap-all label nodes elements groups names =
-    cap-label label (capped nodes) (capped elements) (capped groups) (capped names)
-    ∙ cap-nodes label nodes (capped elements) (capped groups) (capped names)
-    ∙ cap-elements label nodes elements (capped groups) (capped names)
-    ∙ cap-groups label nodes elements groups (capped names)
-    ∙ cap-names label nodes elements groups names
+pub cap_all : (label nodes elements groups names : ℕ) → capped (length_by (capped label) (capped nodes) (capped elements) (capped groups) (capped names)) ≡ capped (length_by label nodes elements groups names)
+cap_all label nodes elements groups names =
+    cap_label label (capped nodes) (capped elements) (capped groups) (capped names)
+    ∙ cap_nodes label nodes (capped elements) (capped groups) (capped names)
+    ∙ cap_elements label nodes elements (capped groups) (capped names)
+    ∙ cap_groups label nodes elements groups (capped names)
+    ∙ cap_names label nodes elements groups names

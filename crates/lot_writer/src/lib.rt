@@ -1,16 +1,16 @@
 // Writing a lot file: the service `write`. Nothing has to be checked first: it takes any runs and any lent space, and states its whole
-// answer, every byte of lent space included, as an equation with `Writing` of the crate `lot_format` at the limits `lotFile`.
+// answer, every byte of lent space included, as an equation with `Writing` of the crate `lot_format` at the limits `lot_file`.
 // All is tested first, in the order of the definitions' `tests`; then the file is written entry by entry.
 
 ghost use Rattle.std.specs.Prelude.{◌≡◌, length};
-ghost use Rattle.foundation.specs.Laid.{laidOver};
-ghost use Rattle.lot_format.specs.Format.{lotFile, written};
-ghost use Rattle.lot_format.specs.Runs.{lotFrom};
-ghost use Rattle.lot_format.specs.Writing.{writing, fileOf};
-ghost use Rattle.lot_roundtrip_theory.specs.Lengths.{lengthBy};
+ghost use Rattle.foundation.specs.Laid.{laid_over};
+ghost use Rattle.lot_format.specs.Format.{lot_file, written};
+ghost use Rattle.lot_format.specs.Runs.{lot_from};
+ghost use Rattle.lot_format.specs.Writing.{writing, file_of};
+ghost use Rattle.lot_roundtrip_theory.specs.Lengths.{length_by};
 ghost use Rattle.lot_roundtrip_theory.specs.Tests.{Writable};
 ghost use Rattle.bytes_output.specs.Behind.{Laid};
-ghost use Rattle.lot_writer.specs.Meaning.{runs, writtenHeld, answer_of, capped};
+ghost use Rattle.lot_writer.specs.Meaning.{runs, written_held, answer_of, capped};
 
 // Why runs are not written.
 #[derive(Drop)]
@@ -45,7 +45,7 @@ fn cap(n: usize) -> usize
 
 // The length of the file of so many bytes of label, nodes, elements, groups and bytes of names, or 65,537 where it is longer.
 fn file_length(label: usize, nodes: usize, elements: usize, groups: usize, names: usize) -> usize
-    ensures { result ≡ capped (lengthBy label nodes elements groups names) }
+    ensures { result ≡ capped (length_by label nodes elements groups names) }
 {
     cap(8 + cap(label) + 16 * cap(nodes) + 36 * cap(elements) + 4 * cap(groups) + cap(names))
 }
@@ -60,7 +60,7 @@ fn tested(
     offsets: &[u32],
     room: usize,
 ) -> Written
-    ensures { writtenHeld result ≡ answer_of (writing lotFile (runs label.now nodes.now elements.now names.now lengths.now offsets.now) room) }
+    ensures { written_held result ≡ answer_of (writing lot_file (runs label.now nodes.now elements.now names.now lengths.now offsets.now) room) }
 {
     if nodes.len() % 3 != 0 {
         return Written::Refused(Unwritable::PartialNode);
@@ -108,8 +108,8 @@ fn put_lot(
     lengths: &[u32],
     offsets: &[u32],
 ) -> usize
-    requires { Writable lotFile (runs label.now nodes.now elements.now names.now lengths.now offsets.now) (length out.old) }
-    ensures { Laid 0 (written (lotFrom (runs label.now nodes.now elements.now names.now lengths.now offsets.now))) out.old out.new result }
+    requires { Writable lot_file (runs label.now nodes.now elements.now names.now lengths.now offsets.now) (length out.old) }
+    ensures { Laid 0 (written (lot_from (runs label.now nodes.now elements.now names.now lengths.now offsets.now))) out.old out.new result }
 {
     let labelled = lot_entry_writer::put_label(out, 0, label);
     let noded = lot_entries_writer::put_nodes(out, labelled, nodes);
@@ -128,8 +128,8 @@ pub fn write(
     offsets: &[u32],
     out: &mut [u8],
 ) -> Written
-    ensures result_value { writtenHeld result ≡ answer_of (writing lotFile (runs label.now nodes.now elements.now names.now lengths.now offsets.now) (length out.old)) }
-    ensures out_after { out.new ≡ laidOver (fileOf (writing lotFile (runs label.now nodes.now elements.now names.now lengths.now offsets.now) (length out.old))) out.old }
+    ensures result_value { written_held result ≡ answer_of (writing lot_file (runs label.now nodes.now elements.now names.now lengths.now offsets.now) (length out.old)) }
+    ensures out_after { out.new ≡ laid_over (file_of (writing lot_file (runs label.now nodes.now elements.now names.now lengths.now offsets.now) (length out.old))) out.old }
 {
     let answer = tested(label, nodes, elements, names, lengths, offsets, out.len());
     match answer {

@@ -3,8 +3,8 @@
 // The answer is an equation with `Mesh` of the definitions at the limits `base`.
 ghost use Rattle.std.specs.Prelude.{◌≡◌, ◌<◌};
 ghost use Rattle.definitions.specs.Limits.{base};
-ghost use Rattle.definitions.specs.Mesh.{wellSized, refusal};
-ghost use Rattle.mesh_checks.specs.Meaning.{checkOf};
+ghost use Rattle.definitions.specs.Mesh.{well_sized, refusal};
+ghost use Rattle.mesh_checks.specs.Meaning.{check_of};
 
 use limits::{MAX_DEPTH, MAX_ELEMENTS, MAX_NODES, RECORD_WORDS};
 
@@ -21,14 +21,14 @@ pub enum Checked {
 // Whether n numbers are a whole number of groups, and at most so many.
 fn well_sized(n: usize, group: usize, most: usize) -> bool
     requires { 0 < group }
-    ensures { result ≡ wellSized n group most }
+    ensures { result ≡ well_sized n group most }
 {
     (n % group == 0) & (n / group <= most)
 }
 
 // The first refusal of a mesh, given the lengths of its coordinate run, its index run and the report space, and the depth.
 pub fn check(coordinates: usize, indices: usize, space: usize, depth: u32) -> Checked
-    ensures { checkOf result ≡ refusal base coordinates indices space depth }
+    ensures { check_of result ≡ refusal base coordinates indices space depth }
 {
     if MAX_DEPTH < depth {
         return Checked::DepthTooGreat;

@@ -2,7 +2,7 @@
 // what each `requires` asks. Every answer is an equation with `Record` and `Mesh` of the definitions at the limits `base`.
 ghost use Rattle.std.specs.Prelude.{◌≡◌, ◌≤◌, length};
 ghost use Rattle.definitions.specs.Limits.{base};
-ghost use Rattle.definitions.specs.Mesh.{elementRecord};
+ghost use Rattle.definitions.specs.Mesh.{element_record};
 
 use limits::RECORD_WORDS;
 use mesh_elements::Element;
@@ -10,7 +10,7 @@ use mesh_elements::Element;
 // The record of the element whose eight indices are lent.
 pub fn element(coordinates: &[i32], ix: &[u32], depth: u32) -> [i64; RECORD_WORDS]
     requires { (length ix.now ≡ 8) × (depth ≤ base.depth) }
-    ensures { result ≡ elementRecord base coordinates.now ix.now depth }
+    ensures { result ≡ element_record base coordinates.now ix.now depth }
 {
     let mut p = [0i32; 24];
     let fault = mesh_elements::fault(coordinates, ix, &mut p);

@@ -4,8 +4,8 @@
 ghost use Rattle.std.specs.Prelude.{◌≡◌, length, pos};
 ghost use Rattle.definitions.specs.Limits.{base};
 ghost use Rattle.definitions.specs.Record.{words};
-ghost use Rattle.definitions.specs.Mesh.{faultOf};
-ghost use Rattle.mesh_elements.specs.Meaning.{pointsAfter, elementOf, refusedWords};
+ghost use Rattle.definitions.specs.Mesh.{fault_of};
+ghost use Rattle.mesh_elements.specs.Meaning.{points_after, element_of, refused_words};
 
 use limits::RECORD_WORDS;
 use mesh_points::First;
@@ -27,8 +27,8 @@ pub enum Element {
 pub fn fault(coordinates: &[i32], ix: &[u32], p: &mut [i32; 24]) -> Element
     requires ix_len { length ix.now ≡ 8 }
     requires p_len { length p.old ≡ 24 }
-    ensures result_value { elementOf result ≡ faultOf base coordinates.now ix.now }
-    ensures p_after { p.new ≡ pointsAfter coordinates.now ix.now p.old }
+    ensures result_value { element_of result ≡ fault_of base coordinates.now ix.now }
+    ensures p_after { p.new ≡ points_after coordinates.now ix.now p.old }
 {
     let missing = mesh_indices::missing_index(coordinates.len() / 3, ix);
     if let First::At(k) = missing {
@@ -61,7 +61,7 @@ fn refusal_words(number: u32, first: u32, second: u32) -> [i64; RECORD_WORDS]
 
 // The record of a refused element: why it is refused. Of a whole element nine zeros.
 pub fn fault_words(f: Element) -> [i64; RECORD_WORDS]
-    ensures { result ≡ refusedWords (elementOf f) }
+    ensures { result ≡ refused_words (element_of f) }
 {
     match f {
         Element::Whole => [0, 0, 0, 0, 0, 0, 0, 0, 0],

@@ -2,16 +2,16 @@
 // An inner crate: only the crates of the two inspectors call it, and they meet what each `requires` asks.
 // An element's place is the position 1 to 8 of one of its indices. Every answer is an equation with `Mesh` of the definitions.
 ghost use Rattle.std.specs.Prelude.{◌≡◌, ◌<◌, length};
-ghost use Rattle.definitions.specs.Mesh.{missingIndex, namedTwice};
+ghost use Rattle.definitions.specs.Mesh.{missing_index, named_twice};
 ghost use Rattle.mesh_points.specs.Meaning.{first_of};
-ghost use Rattle.mesh_indices.specs.Pairs.{sameAfter};
+ghost use Rattle.mesh_indices.specs.Pairs.{same_after};
 
 use mesh_points::First;
 
 // The first of an element's eight indices that names no node.
 pub fn missing_index(nodes: usize, ix: &[u32]) -> First
     requires { length ix.now ≡ 8 }
-    ensures { first_of result ≡ missingIndex nodes ix.now }
+    ensures { first_of result ≡ missing_index nodes ix.now }
 {
     for k in 0..8 {
         let index = ix[k] as usize;
@@ -26,7 +26,7 @@ pub fn missing_index(nodes: usize, ix: &[u32]) -> First
 fn same_after(ix: &[u32], first: usize) -> First
     requires ix_len { length ix.now ≡ 8 }
     requires first_bound { first < 8 }
-    ensures { first_of result ≡ sameAfter ix.now first }
+    ensures { first_of result ≡ same_after ix.now first }
 {
     let index = ix[first];
     for second in first + 1..8 {
@@ -41,7 +41,7 @@ fn same_after(ix: &[u32], first: usize) -> First
 // The first pair of an element's places with one index, counted likewise.
 pub fn named_twice(ix: &[u32]) -> First
     requires { length ix.now ≡ 8 }
-    ensures { first_of result ≡ namedTwice ix.now }
+    ensures { first_of result ≡ named_twice ix.now }
 {
     for first in 0..8 {
         let pair = same_after(ix, first);

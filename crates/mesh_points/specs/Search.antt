@@ -3,7 +3,7 @@ use Rattle.std.specs.Prelude.{◌≡◌, refl, Bool, true, false, ℕ, zero, suc
 use Rattle.std.proofs.Common.{sym, ◌∙◌, ap, subst, arith}
 use Rattle.std.proofs.Math.Option.{Option, none, some}
 use Rattle.std.proofs.Math.Decide.{ℕ_discrete}
-use Rattle.definitions.specs.Mesh.{firstFrom}
+use Rattle.definitions.specs.Mesh.{first_from}
 
 -- what is found is not nothing
 pub never : {A B : Type 0} {x : A} → some x ≡ none → B
@@ -11,63 +11,63 @@ never e = let z : ◌≡◌ {A = ℕ} 0 1 = cc in absurd (omega arith)
 
 module _ (p : ℕ → Bool) where
   -- ---- a turn of the loop, and its end
-  pub first-here : (i n : ℕ) → i < n → p i ≡ true → firstFrom p i (n - i) ≡ some i
-  first-here i n h e = let s : n - i ≡ suc (n - (i + 1)) = omega arith in rw (s, e, firstFrom)
+  pub first_here : (i n : ℕ) → i < n → p i ≡ true → first_from p i (n - i) ≡ some i
+  first_here i n h e = let s : n - i ≡ suc (n - (i + 1)) = omega arith in rw (s, e, first_from)
 
-  pub first-later : (i n : ℕ) → i < n → p i ≡ false → firstFrom p i (n - i) ≡ firstFrom p (i + 1) (n - (i + 1))
-  first-later i n h e =
+  pub first_later : (i n : ℕ) → i < n → p i ≡ false → first_from p i (n - i) ≡ first_from p (i + 1) (n - (i + 1))
+  first_later i n h e =
       let s : n - i ≡ suc (n - (i + 1)) = omega arith in
       let t : suc i ≡ i + 1 = omega arith in
-      rw (s, e, firstFrom) (ap (λ (j : ℕ). firstFrom p j (n - (i + 1))) t)
+      rw (s, e, first_from) (ap (λ (j : ℕ). first_from p j (n - (i + 1))) t)
 
-  pub first-over : (i n : ℕ) → i ≡ n → firstFrom p i (n - i) ≡ none
-  first-over i n h = let s : n - i ≡ 0 = omega arith in rw s
+  pub first_over : (i n : ℕ) → i ≡ n → first_from p i (n - i) ≡ none
+  first_over i n h = let s : n - i ≡ 0 = omega arith in rw s
 
   -- some turns at which the test does not hold
-  pub first-skip : (i d n : ℕ) → i + d ≤ n → ((k : ℕ) → i ≤ k → k < i + d → p k ≡ false) → firstFrom p i (n - i) ≡ firstFrom p (i + d) (n - (i + d))
-  first-skip i zero n h f = let s : i ≡ i + 0 = omega arith in ap (λ (j : ℕ). firstFrom p j (n - j)) s
-  first-skip i (suc d) n h f =
+  pub first_skip : (i d n : ℕ) → i + d ≤ n → ((k : ℕ) → i ≤ k → k < i + d → p k ≡ false) → first_from p i (n - i) ≡ first_from p (i + d) (n - (i + d))
+  first_skip i zero n h f = let s : i ≡ i + 0 = omega arith in ap (λ (j : ℕ). first_from p j (n - j)) s
+  first_skip i (suc d) n h f =
       let s : i + 1 + d ≡ i + suc d = omega arith in
-      first-later i n (omega arith) (f i (omega arith) (omega arith)) ∙ first-skip (i + 1) d n (omega arith) (λ k l u. f k (omega arith) (omega arith)) ∙ ap (λ (j : ℕ). firstFrom p j (n - j)) s
+      first_later i n (omega arith) (f i (omega arith) (omega arith)) ∙ first_skip (i + 1) d n (omega arith) (λ k l u. f k (omega arith) (omega arith)) ∙ ap (λ (j : ℕ). first_from p j (n - j)) s
 
   -- ---- what the answer says
-  pub first_below : (i n k : ℕ) → firstFrom p i n ≡ some k → k < i + n
+  pub first_below : (i n k : ℕ) → first_from p i n ≡ some k → k < i + n
   first_below i zero k e = never (sym e)
   first_below i (suc n) k e = step (p i) (first_below (suc i) n k) e
     where
-      step : (b : Bool) → (firstFrom p (suc i) n ≡ some k → k < suc i + n)
-          → ◌≡◌ {A = Option ℕ} (elim b [ true ↦ some i | false ↦ firstFrom p (suc i) n ]) (some k) → k < i + suc n
+      step : (b : Bool) → (first_from p (suc i) n ≡ some k → k < suc i + n)
+          → ◌≡◌ {A = Option ℕ} (elim b [ true ↦ some i | false ↦ first_from p (suc i) n ]) (some k) → k < i + suc n
       step true r e = let z : i ≡ k = cc in omega arith
       step false r e = omega (arith, r e)
 
-  pub first-none : (i n : ℕ) → firstFrom p i n ≡ none → (k : ℕ) → i ≤ k → k < i + n → p k ≡ false
-  first-none i zero e k l h = absurd (omega arith)
-  first-none i (suc n) e k l h = step (p i) refl (first-none (suc i) n) e
+  pub first_none : (i n : ℕ) → first_from p i n ≡ none → (k : ℕ) → i ≤ k → k < i + n → p k ≡ false
+  first_none i zero e k l h = absurd (omega arith)
+  first_none i (suc n) e k l h = step (p i) refl (first_none (suc i) n) e
     where
-      step : (b : Bool) → p i ≡ b → (firstFrom p (suc i) n ≡ none → (k : ℕ) → suc i ≤ k → k < suc i + n → p k ≡ false)
-          → ◌≡◌ {A = Option ℕ} (elim b [ true ↦ some i | false ↦ firstFrom p (suc i) n ]) none → p k ≡ false
+      step : (b : Bool) → p i ≡ b → (first_from p (suc i) n ≡ none → (k : ℕ) → suc i ≤ k → k < suc i + n → p k ≡ false)
+          → ◌≡◌ {A = Option ℕ} (elim b [ true ↦ some i | false ↦ first_from p (suc i) n ]) none → p k ≡ false
       step true f r e = never e
       step false f r e = elim (ℕ_discrete i k) [ yes q ↦ subst (λ (j : ℕ). p j ≡ false) q f | no q ↦ r e k (omega arith) (omega arith) ]
 
   -- what is found within m is found within more
-  pub first-longer : (i m n k : ℕ) → m ≤ n → firstFrom p i m ≡ some k → firstFrom p i n ≡ some k
-  first-longer i zero n k l e = never (sym e)
-  first-longer i (suc m) zero k l e = absurd (omega arith)
-  first-longer i (suc m) (suc n) k l e = step (p i) (first-longer (suc i) m n k (omega arith)) e
+  pub first_longer : (i m n k : ℕ) → m ≤ n → first_from p i m ≡ some k → first_from p i n ≡ some k
+  first_longer i zero n k l e = never (sym e)
+  first_longer i (suc m) zero k l e = absurd (omega arith)
+  first_longer i (suc m) (suc n) k l e = step (p i) (first_longer (suc i) m n k (omega arith)) e
     where
-      step : (b : Bool) → (firstFrom p (suc i) m ≡ some k → firstFrom p (suc i) n ≡ some k)
-          → ◌≡◌ {A = Option ℕ} (elim b [ true ↦ some i | false ↦ firstFrom p (suc i) m ]) (some k)
-          → ◌≡◌ {A = Option ℕ} (elim b [ true ↦ some i | false ↦ firstFrom p (suc i) n ]) (some k)
+      step : (b : Bool) → (first_from p (suc i) m ≡ some k → first_from p (suc i) n ≡ some k)
+          → ◌≡◌ {A = Option ℕ} (elim b [ true ↦ some i | false ↦ first_from p (suc i) m ]) (some k)
+          → ◌≡◌ {A = Option ℕ} (elim b [ true ↦ some i | false ↦ first_from p (suc i) n ]) (some k)
       step true r e = e
       step false r e = r e
 
   -- where something is found the test holds, and nowhere before
-  pub first_found : (i n k : ℕ) → firstFrom p i n ≡ some k → (p k ≡ true) × ((j : ℕ) → i ≤ j → j < k → p j ≡ false)
+  pub first_found : (i n k : ℕ) → first_from p i n ≡ some k → (p k ≡ true) × ((j : ℕ) → i ≤ j → j < k → p j ≡ false)
   first_found i zero k e = never (sym e)
   first_found i (suc n) k e = step (p i) refl (first_found (suc i) n k) e
     where
-      step : (b : Bool) → p i ≡ b → (firstFrom p (suc i) n ≡ some k → (p k ≡ true) × ((j : ℕ) → suc i ≤ j → j < k → p j ≡ false))
-          → ◌≡◌ {A = Option ℕ} (elim b [ true ↦ some i | false ↦ firstFrom p (suc i) n ]) (some k) → (p k ≡ true) × ((j : ℕ) → i ≤ j → j < k → p j ≡ false)
+      step : (b : Bool) → p i ≡ b → (first_from p (suc i) n ≡ some k → (p k ≡ true) × ((j : ℕ) → suc i ≤ j → j < k → p j ≡ false))
+          → ◌≡◌ {A = Option ℕ} (elim b [ true ↦ some i | false ↦ first_from p (suc i) n ]) (some k) → (p k ≡ true) × ((j : ℕ) → i ≤ j → j < k → p j ≡ false)
       step true f r e = let z : i ≡ k = cc in (subst (λ (j : ℕ). p j ≡ true) z f, λ j l h. absurd (omega arith))
       step false f r e = let rest = r e in
           (rest.0, λ j l h. elim (ℕ_discrete i j) [ yes q ↦ subst (λ (j : ℕ). p j ≡ false) q f | no q ↦ rest.1 j (omega arith) (omega arith) ])

@@ -3,7 +3,7 @@
 // Every answer is an equation with `Mesh` of the definitions at the limits `base`.
 ghost use Rattle.std.specs.Prelude.{◌≡◌, ℕ, ◌/◌, ◌<◌, length, get_or};
 ghost use Rattle.definitions.specs.Limits.{base};
-ghost use Rattle.definitions.specs.Mesh.{usable, points_of, outOfRange};
+ghost use Rattle.definitions.specs.Mesh.{usable, points_of, out_of_range};
 ghost use Rattle.mesh_points.specs.Meaning.{first_of};
 
 use limits::{MAX_COORDINATE, MIN_COORDINATE};
@@ -24,7 +24,7 @@ fn usable(x: i32) -> bool
 
 // The first of the 24 coordinates of eight points that is out of range.
 pub fn out_of_range(p: &[i32; 24]) -> First
-    ensures { first_of result ≡ outOfRange base p.now }
+    ensures { first_of result ≡ out_of_range base p.now }
 {
     for k in 0..24 {
         let x = p[k];

@@ -5,66 +5,66 @@ use Rattle.std.proofs.Math.Path.{ap}
 use mathlib.Core.List.{List, [], ◌∷◌, ◌++◌}
 use native.Mathlib.Omega.{arith}
 use Rattle.std.proofs.Math.ListN.{length}
-use Rattle.foundation.specs.Lists.{all-tabulate, concatMap, concatMap-append, append-nil, tabulate, length-tabulate}
-use Rattle.definitions.specs.Limits.{Limits, recordWords}
-use Rattle.definitions.specs.Record.{kindWord}
-use Rattle.definitions.specs.Mesh.{Counts, elementRecord, records, report, countsOf}
-use Rattle.verdict_theory.specs.Kinds.{HasKind, isKind, counted, counts-last, countsTotal, counts-total}
-use Rattle.verdict_theory.specs.Elements.{element-length, element-kind, concat-length}
+use Rattle.foundation.specs.Lists.{all_tabulate, concat_map, concat_map_append, append_nil, tabulate, length_tabulate}
+use Rattle.definitions.specs.Limits.{Limits, record_words}
+use Rattle.definitions.specs.Record.{kind_word}
+use Rattle.definitions.specs.Mesh.{Counts, element_record, records, report, counts_of}
+use Rattle.verdict_theory.specs.Kinds.{HasKind, is_kind, counted, counts_last, counts_total, counts_total_law}
+use Rattle.verdict_theory.specs.Elements.{element_length, element_kind, concat_length}
 use Rattle.mesh_report.specs.Report.{put_next}
 
 -- ---- one more at the end
-tabulate-last : {A : Type 0} (f : ℕ → A) (i n : ℕ) → tabulate f i (n + 1) ≡ tabulate f i n ++ (f (i + n) ∷ [])
-tabulate-last f i n = let p : n + 1 ≡ suc n = omega arith in ap (tabulate f i) p ∙ go i n
+tabulate_last : {A : Type 0} (f : ℕ → A) (i n : ℕ) → tabulate f i (n + 1) ≡ tabulate f i n ++ (f (i + n) ∷ [])
+tabulate_last f i n = let p : n + 1 ≡ suc n = omega arith in ap (tabulate f i) p ∙ go i n
   where
     go : (i n : ℕ) → tabulate f i (suc n) ≡ tabulate f i n ++ (f (i + n) ∷ [])
     go i zero = let p : i ≡ i + 0 = omega arith in ap (λ (k : ℕ). f k ∷ []) p
     go i (suc n) = let p : suc i + n ≡ i + suc n = omega arith in ap (λ l. f i ∷ l) (go (suc i) n ∙ ap (λ (k : ℕ). tabulate f (suc i) n ++ (f k ∷ [])) p)
 
-concat-last : (rs : List (List ℤ)) (r : List ℤ) → concatMap (λ x. x) (rs ++ (r ∷ [])) ≡ concatMap (λ x. x) rs ++ r
-concat-last rs r = concatMap-append (λ x. x) rs (r ∷ []) ∙ ap (λ (l : List ℤ). concatMap (λ x. x) rs ++ l) (append-nil r)
+concat_last : (rs : List (List ℤ)) (r : List ℤ) → concat_map (λ x. x) (rs ++ (r ∷ [])) ≡ concat_map (λ x. x) rs ++ r
+concat_last rs r = concat_map_append (λ x. x) rs (r ∷ []) ∙ ap (λ (l : List ℤ). concat_map (λ x. x) rs ++ l) (append_nil r)
 
 module _ (L : Limits) (coordinates : List ℤ) (indices : List ℕ) (D : ℕ) where
   -- the record of element e, the first e records, and the words that they take
-  abbrev pub recordAt : ℕ → List ℤ
-  recordAt e = elementRecord L coordinates (take 8 (drop (8 * e) indices)) D
+  abbrev pub record_at : ℕ → List ℤ
+  record_at e = element_record L coordinates (take 8 (drop (8 * e) indices)) D
 
-  abbrev firstRecords : ℕ → List (List ℤ)
-  firstRecords e = tabulate recordAt 0 e
+  abbrev first_records : ℕ → List (List ℤ)
+  first_records e = tabulate record_at 0 e
 
   abbrev written : ℕ → List ℤ
-  written e = concatMap (λ r. r) (firstRecords e)
+  written e = concat_map (λ r. r) (first_records e)
 
   -- the report space when the first e records are written
-  abbrev spaceAt : ℕ → List ℤ → List ℤ
-  spaceAt e space = written e ++ drop (recordWords * e) space
+  abbrev space_at : ℕ → List ℤ → List ℤ
+  space_at e space = written e ++ drop (record_words * e) space
 
-  written-length : (e : ℕ) → length (written e) ≡ recordWords * e
-  written-length e = concat-length (firstRecords e) (all-tabulate (λ r. length r ≡ recordWords) recordAt 0 e (λ k _ _. element-length L coordinates (take 8 (drop (8 * k) indices)) D)) ∙ ap (λ (n : ℕ). recordWords * n) (length-tabulate recordAt 0 e)
+  written_length_law : (e : ℕ) → length (written e) ≡ record_words * e
+  written_length_law e = concat_length (first_records e) (all_tabulate (λ r. length r ≡ record_words) record_at 0 e (λ k _ _. element_length L coordinates (take 8 (drop (8 * k) indices)) D)) ∙ ap (λ (n : ℕ). record_words * n) (length_tabulate record_at 0 e)
 
-  space-length : (e : ℕ) (space : List ℤ) → recordWords * e ≤ length space → length (spaceAt e space) ≡ length space
-  space-length e space h = simp (length-append, length-drop) (omega (arith, written-length e))
+  space_length : (e : ℕ) (space : List ℤ) → record_words * e ≤ length space → length (space_at e space) ≡ length space
+  space_length e space h = simp (length-append, length-drop) (omega (arith, written_length_law e))
 
-  written_next : (e : ℕ) → written (e + 1) ≡ written e ++ recordAt e
-  written_next e = ap (concatMap (λ r. r)) (tabulate-last recordAt 0 e) ∙ concat-last (firstRecords e) (recordAt (0 + e)) ∙ ap (λ (k : ℕ). written e ++ recordAt k) zero-plus
+  written_next : (e : ℕ) → written (e + 1) ≡ written e ++ record_at e
+  written_next e = ap (concat_map (λ r. r)) (tabulate_last record_at 0 e) ∙ concat_last (first_records e) (record_at (0 + e)) ∙ ap (λ (k : ℕ). written e ++ record_at k) zero_plus
     where
-      zero-plus : 0 + e ≡ e
-      zero-plus = omega arith
+      zero_plus : 0 + e ≡ e
+      zero_plus = omega arith
 
-  counts-next : (e : ℕ) → countsOf (firstRecords (e + 1)) ≡ counted (kindWord (recordAt e)) (countsOf (firstRecords e))
-  counts-next e = ap countsOf (tabulate-last recordAt 0 e) ∙ counts-last (firstRecords e) (recordAt (0 + e)) ∙ ap (λ (k : ℕ). counted (kindWord (recordAt k)) (countsOf (firstRecords e))) zero-plus
+  counts_next : (e : ℕ) → counts_of (first_records (e + 1)) ≡ counted (kind_word (record_at e)) (counts_of (first_records e))
+  counts_next e = ap counts_of (tabulate_last record_at 0 e) ∙ counts_last (first_records e) (record_at (0 + e)) ∙ ap (λ (k : ℕ). counted (kind_word (record_at k)) (counts_of (first_records e))) zero_plus
     where
-      zero-plus : 0 + e ≡ e
-      zero-plus = omega arith
+      zero_plus : 0 + e ≡ e
+      zero_plus = omega arith
 
   -- all of them
-  space-last : (e : ℕ) (space : List ℤ) → e ≡ length indices / 8 → length space ≡ recordWords * (length indices / 8) → spaceAt e space ≡ report L coordinates indices D
+  space_last : (e : ℕ) (space : List ℤ) → e ≡ length indices / 8 → length space ≡ record_words * (length indices / 8) → space_at e space ≡ report L coordinates indices D
   unfolding report records
-  space-last e space h k = let p : length space ≤ recordWords * e = omega arith in ap (λ (l : List ℤ). written e ++ l) (drop_of_length-le space p) ∙ append-nil (written e) ∙ ap written h
+  space_last e space h k = let p : length space ≤ record_words * e = omega arith in ap (λ (l : List ℤ). written e ++ l) (drop_of_length-le space p) ∙ append_nil (written e) ∙ ap written h
 
-  counts-last-of : (e : ℕ) → e ≡ length indices / 8 → countsOf (firstRecords e) ≡ countsOf (records L coordinates indices D)
+  counts_last_of : (e : ℕ) → e ≡ length indices / 8 → counts_of (first_records e) ≡ counts_of (records L coordinates indices D)
   unfolding records
-  counts-last-of e h = ap (λ (n : ℕ). countsOf (firstRecords n)) h
+  counts_last_of e h = ap (λ (n : ℕ). counts_of (first_records n)) h
 
 -- the part of the index run that the code lends
 pub part_of : (indices : List ℕ) (e : ℕ) → take (8 * e + 8 - 8 * e) (drop (8 * e) indices) ≡ take 8 (drop (8 * e) indices)
@@ -75,49 +75,49 @@ part_length indices e h = ap length (part_of indices e) ∙ length-take-le 8 (dr
 
 module _ (L : Limits) (coordinates : List ℤ) (indices : List ℕ) (D : ℕ) where
   -- as many are counted as are written
-  counted-so-far : (e : ℕ) → countsTotal (countsOf (firstRecords L coordinates indices D e)) ≡ e
-  counted-so-far e = counts-total (firstRecords L coordinates indices D e) (all-tabulate HasKind (recordAt L coordinates indices D) 0 e (λ k _ _. element-kind L coordinates (take 8 (drop (8 * k) indices)) D)) ∙ length-tabulate (recordAt L coordinates indices D) 0 e
+  counted_so_far : (e : ℕ) → counts_total (counts_of (first_records L coordinates indices D e)) ≡ e
+  counted_so_far e = counts_total_law (first_records L coordinates indices D e) (all_tabulate HasKind (record_at L coordinates indices D) 0 e (λ k _ _. element_kind L coordinates (take 8 (drop (8 * k) indices)) D)) ∙ length_tabulate (record_at L coordinates indices D) 0 e
 
   -- record e put after those before it
-  put_record : (e : ℕ) (space now words : List ℤ) → now ≡ spaceAt L coordinates indices D e space → words ≡ recordAt L coordinates indices D e
-      → take (recordWords * e) now ++ words ++ drop (recordWords * e + recordWords) now ≡ spaceAt L coordinates indices D (e + 1) space
-  put_record e space now words h k = ap₂ (λ (n w : List ℤ). take (recordWords * e) n ++ w ++ drop (recordWords * e + recordWords) n) h k
-      ∙ put_next (written L coordinates indices D e) space (recordAt L coordinates indices D e) e (written-length L coordinates indices D e)
-      ∙ ap (λ (l : List ℤ). l ++ drop (recordWords * (e + 1)) space) (sym (written_next L coordinates indices D e))
+  put_record : (e : ℕ) (space now words : List ℤ) → now ≡ space_at L coordinates indices D e space → words ≡ record_at L coordinates indices D e
+      → take (record_words * e) now ++ words ++ drop (record_words * e + record_words) now ≡ space_at L coordinates indices D (e + 1) space
+  put_record e space now words h k = ap₂ (λ (n w : List ℤ). take (record_words * e) n ++ w ++ drop (record_words * e + record_words) n) h k
+      ∙ put_next (written L coordinates indices D e) space (record_at L coordinates indices D e) e (written_length_law L coordinates indices D e)
+      ∙ ap (λ (l : List ℤ). l ++ drop (record_words * (e + 1)) space) (sym (written_next L coordinates indices D e))
 
 -- ---- the report space and the counts between two elements
 module _ (L : Limits) (coordinates : List ℤ) (indices : List ℕ) (D : ℕ) (space : List ℤ) where
   -- the first e records are written and counted, and the space after them is as it was
   pub record Entered (e : ℕ) (now : List ℤ) (counts : Counts) : Type 0 where
-    pub so-many : e ≤ length indices / 8
-    pub space-is : now ≡ spaceAt L coordinates indices D e space
-    pub counts-are : counts ≡ countsOf (firstRecords L coordinates indices D e)
+    pub so_many : e ≤ length indices / 8
+    pub space_is : now ≡ space_at L coordinates indices D e space
+    pub counts_are : counts ≡ counts_of (first_records L coordinates indices D e)
 
-  pub entered-none : Entered 0 space (record { valid = 0; invalid = 0; undecided = 0; refused = 0 })
-  entered-none = record { so-many = zero-le; space-is = refl; counts-are = refl }
+  pub entered_none : Entered 0 space (record { valid = 0; invalid = 0; undecided = 0; refused = 0 })
+  entered_none = record { so_many = zero-le; space_is = refl; counts_are = refl }
 
-  module _ (room : length space ≡ recordWords * (length indices / 8)) {e : ℕ} {now : List ℤ} {counts : Counts} (h : Entered e now counts) where
-    pub entered-length : length now ≡ length space
-    entered-length = ap length h.space-is ∙ space-length L coordinates indices D e space (omega (arith, h.so-many, room))
+  module _ (room : length space ≡ record_words * (length indices / 8)) {e : ℕ} {now : List ℤ} {counts : Counts} (h : Entered e now counts) where
+    pub entered_length : length now ≡ length space
+    entered_length = ap length h.space_is ∙ space_length L coordinates indices D e space (omega (arith, h.so_many, room))
 
     -- all of them
-    pub entered_all : length indices / 8 ≤ e → (counts ≡ countsOf (records L coordinates indices D)) × (now ≡ report L coordinates indices D)
-    entered_all last = let all : e ≡ length indices / 8 = omega (arith, h.so-many, last) in
-        (h.counts-are ∙ counts-last-of L coordinates indices D e all, h.space-is ∙ space-last L coordinates indices D e space all room)
+    pub entered_all : length indices / 8 ≤ e → (counts ≡ counts_of (records L coordinates indices D)) × (now ≡ report L coordinates indices D)
+    entered_all last = let all : e ≡ length indices / 8 = omega (arith, h.so_many, last) in
+        (h.counts_are ∙ counts_last_of L coordinates indices D e all, h.space_is ∙ space_last L coordinates indices D e space all room)
 
-    module _ (more : e < length indices / 8) {words : List ℤ} (w : words ≡ recordAt L coordinates indices D e) where
+    module _ (more : e < length indices / 8) {words : List ℤ} (w : words ≡ record_at L coordinates indices D e) where
       -- the record of element e can be entered
-      pub entered-room : L.elements < 2 ^ 32 - 1 → length indices / 8 ≤ L.elements → (isKind (kindWord words) ≡ true) × (countsTotal counts < 2 ^ 32 - 1) × (recordWords * e + recordWords ≤ length now)
-      entered-room few small = (
-        ap (λ (r : List ℤ). isKind (kindWord r)) w ∙ element-kind L coordinates (take 8 (drop (8 * e) indices)) D,
-        omega (arith, few, small, more, ap countsTotal h.counts-are ∙ counted-so-far L coordinates indices D e),
-        omega (arith, entered-length, room, more),
+      pub entered_room : L.elements < 2 ^ 32 - 1 → length indices / 8 ≤ L.elements → (is_kind (kind_word words) ≡ true) × (counts_total counts < 2 ^ 32 - 1) × (record_words * e + record_words ≤ length now)
+      entered_room few small = (
+        ap (λ (r : List ℤ). is_kind (kind_word r)) w ∙ element_kind L coordinates (take 8 (drop (8 * e) indices)) D,
+        omega (arith, few, small, more, ap counts_total h.counts_are ∙ counted_so_far L coordinates indices D e),
+        omega (arith, entered_length, room, more),
       )
 
       -- and has been
-      pub entered-next : {now' : List ℤ} → now' ≡ take (recordWords * e) now ++ words ++ drop (recordWords * e + recordWords) now → {counts' : Counts} → counts' ≡ counted (kindWord words) counts → Entered (e + 1) now' counts'
-      entered-next p q = record {
-        so-many = omega (arith, more);
-        space-is = p ∙ put_record L coordinates indices D e space now words h.space-is w;
-        counts-are = q ∙ (λ i. counted (kindWord (w i)) (h.counts-are i)) ∙ sym (counts-next L coordinates indices D e);
+      pub entered_next : {now' : List ℤ} → now' ≡ take (record_words * e) now ++ words ++ drop (record_words * e + record_words) now → {counts' : Counts} → counts' ≡ counted (kind_word words) counts → Entered (e + 1) now' counts'
+      entered_next p q = record {
+        so_many = omega (arith, more);
+        space_is = p ∙ put_record L coordinates indices D e space now words h.space_is w;
+        counts_are = q ∙ (λ i. counted (kind_word (w i)) (h.counts_are i)) ∙ sym (counts_next L coordinates indices D e);
       }

@@ -1,18 +1,18 @@
 // The report space of a mesh, a record for each element, and how many records there are of each kind.
 // An inner crate, for the crates that write reports, which meet what each `requires` asks.
 ghost use Rattle.std.specs.Prelude.{◌≡◌, true, ◌++◌, ◌+◌, ◌-◌, ◌*◌, ◌^◌, ◌<◌, ◌≤◌, length, take, drop};
-ghost use Rattle.definitions.specs.Limits.{recordWords};
-ghost use Rattle.definitions.specs.Record.{kindWord};
-ghost use Rattle.verdict_theory.specs.Kinds.{isKind, counted, countsTotal};
-ghost use Rattle.inspection_counts.specs.Meaning.{countsHeld};
+ghost use Rattle.definitions.specs.Limits.{record_words};
+ghost use Rattle.definitions.specs.Record.{kind_word};
+ghost use Rattle.verdict_theory.specs.Kinds.{is_kind, counted, counts_total};
+ghost use Rattle.inspection_counts.specs.Meaning.{counts_held};
 
 use inspection_counts::Counts;
 use limits::RECORD_WORDS;
 
 // The words of record e into the report space; the rest of it stays.
 fn put(words: [i64; RECORD_WORDS], e: usize, report: &mut [i64])
-    requires { recordWords * e + recordWords ≤ length report.old }
-    ensures { report.new ≡ take (recordWords * e) report.old ++ words ++ drop (recordWords * e + recordWords) report.old }
+    requires { record_words * e + record_words ≤ length report.old }
+    ensures { report.new ≡ take (record_words * e) report.old ++ words ++ drop (record_words * e + record_words) report.old }
 {
     let at = RECORD_WORDS * e;
     for k in 0..RECORD_WORDS {
@@ -23,8 +23,8 @@ fn put(words: [i64; RECORD_WORDS], e: usize, report: &mut [i64])
 
 // The counts with one record more, by its word 0, which is that of a kind.
 fn counted(kind: i64, n: Counts) -> Counts
-    requires { (isKind kind ≡ true) × (countsTotal (countsHeld n) < 2 ^ 32 - 1) }
-    ensures { countsHeld result ≡ counted kind (countsHeld n) }
+    requires { (is_kind kind ≡ true) × (counts_total (counts_held n) < 2 ^ 32 - 1) }
+    ensures { counts_held result ≡ counted kind (counts_held n) }
 {
     if kind == 0 {
         return Counts {
@@ -60,9 +60,9 @@ fn counted(kind: i64, n: Counts) -> Counts
 
 // The words of record e into the report space, and the counts with this record.
 pub fn enter(words: [i64; RECORD_WORDS], e: usize, n: Counts, report: &mut [i64]) -> Counts
-    requires { (isKind (kindWord words) ≡ true) × (countsTotal (countsHeld n) < 2 ^ 32 - 1) × (recordWords * e + recordWords ≤ length report.old) }
-    ensures result_value { countsHeld result ≡ counted (kindWord words) (countsHeld n) }
-    ensures report_after { report.new ≡ take (recordWords * e) report.old ++ words ++ drop (recordWords * e + recordWords) report.old }
+    requires { (is_kind (kind_word words) ≡ true) × (counts_total (counts_held n) < 2 ^ 32 - 1) × (record_words * e + record_words ≤ length report.old) }
+    ensures result_value { counts_held result ≡ counted (kind_word words) (counts_held n) }
+    ensures report_after { report.new ≡ take (record_words * e) report.old ++ words ++ drop (record_words * e + record_words) report.old }
 {
     let kind = words[0];
     put(words, e, report);

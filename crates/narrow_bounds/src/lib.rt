@@ -1,14 +1,14 @@
 // Both bounds of eight points by recursion, with numbers of one word. An inner crate, for the inspector's own crates: its callers see to it that the
 // numbers stay small enough at every level that is asked for (`Small`).
 ghost use Rattle.std.specs.Prelude.{◌≡◌, List, length, take, ℤ};
-ghost use Rattle.foundation.specs.Least.{leastFrom, leastOf};
+ghost use Rattle.foundation.specs.Least.{least_from, least_of};
 ghost use Rattle.definitions.specs.Coefficients.{coefficients};
 ghost use Rattle.definitions.specs.Subdivision.{Cell};
 ghost use Rattle.verdict_theory.specs.Extremes.{extremes as extremesBelow};
 ghost use Rattle.search_theory.specs.Meaning.{Small};
-ghost use Rattle.search_theory.specs.Bounds.{withControl, boundsAt};
+ghost use Rattle.search_theory.specs.Bounds.{with_control, bounds_at};
 ghost use Rattle.narrow_rows.specs.Word.{largest};
-ghost use Rattle.narrow_bounds.specs.Meaning.{extremesOf};
+ghost use Rattle.narrow_bounds.specs.Meaning.{extremes_of};
 
 // The greatest number of a word.
 const GREATEST: i64 = 9223372036854775807;
@@ -23,7 +23,7 @@ pub struct Extremes {
 // The least of v and the corners, the first eight coefficients.
 fn with_corners(g: &[i64; 27], v: i64) -> i64
     requires { length g.now ≡ 27 }
-    ensures { result ≡ leastFrom v (take 8 g.now) }
+    ensures { result ≡ least_from v (take 8 g.now) }
 {
     let mut r = v;
     for n in 0..8 {
@@ -35,8 +35,8 @@ fn with_corners(g: &[i64; 27], v: i64) -> i64
 
 // One cell more, with its least coefficient.
 fn with_cell(g: &[i64; 27], least: i64, r: Extremes) -> Extremes
-    requires { (length g.now ≡ 27) × (least ≡ leastOf g.now) }
-    ensures { extremesOf result ≡ withControl g.now (extremesOf r) }
+    requires { (length g.now ≡ 27) × (least ≡ least_of g.now) }
+    ensures { extremes_of result ≡ with_control g.now (extremes_of r) }
 {
     let low = r.low;
     let high = r.high;
@@ -48,8 +48,8 @@ fn with_cell(g: &[i64; 27], least: i64, r: Extremes) -> Extremes
 
 // The cells `left` levels below this one, of which the least coefficient is told, after those seen before.
 fn survey(g: &[i64; 27], least: i64, left: u32, r: Extremes) -> Extremes
-    requires { Small largest g.now left × (least ≡ leastOf g.now) }
-    ensures { (s : Cell) → s.control ≡ g.now → extremesOf result ≡ extremesBelow left s (extremesOf r) }
+    requires { Small largest g.now left × (least ≡ least_of g.now) }
+    ensures { (s : Cell) → s.control ≡ g.now → extremes_of result ≡ extremesBelow left s (extremes_of r) }
 {
     if left == 0 {
         return with_cell(g, least, r);
@@ -69,7 +69,7 @@ fn survey(g: &[i64; 27], least: i64, left: u32, r: Extremes) -> Extremes
 // Both bounds of the eight points with these coefficients, from the greatest number, which no coefficient passes.
 pub fn bounds(g: &[i64; 27], depth: u32) -> Extremes
     requires { Small largest g.now depth }
-    ensures { (xs : List ℤ) → g.now ≡ coefficients xs → extremesOf result ≡ boundsAt xs depth }
+    ensures { (xs : List ℤ) → g.now ≡ coefficients xs → extremes_of result ≡ bounds_at xs depth }
 {
     let whole = narrow_least::least_of(g);
     survey(

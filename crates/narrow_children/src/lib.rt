@@ -4,9 +4,9 @@
 ghost use Rattle.std.specs.Prelude.{◌≡◌, false, ◌&&◌, ◌<◌, eqb, length};
 ghost use Rattle.definitions.specs.Jacobian.{side};
 ghost use Rattle.definitions.specs.Subdivision.{halve};
-ghost use Rattle.definitions.specs.Eighths.{eighthOf};
+ghost use Rattle.definitions.specs.Eighths.{eighth_of};
 ghost use Rattle.expansion_theory.specs.Control.{Cuttable};
-ghost use Rattle.verdict_theory.specs.Clear.{half_of, quarterOf};
+ghost use Rattle.verdict_theory.specs.Clear.{half_of, quarter_of};
 ghost use Rattle.search_theory.specs.Meaning.{lowest, Small};
 ghost use Rattle.search_theory.specs.Children.{Ready, Run};
 ghost use Rattle.narrow_rows.specs.Word.{largest};
@@ -41,7 +41,7 @@ fn clear_half_at(d: u32, first: bool, c: &[i64; 27], k: u32, out: &mut [i64; 27]
 // The half and the quarter of g that child k lies in.
 pub fn quarter_at(g: &[i64; 27], k: u32, half: &mut [i64; 27], quarter: &mut [i64; 27])
     requires { Small largest g.now 1 × Ready g.now k half.old quarter.old }
-    ensures { (half.new ≡ half_of g.now k) × (quarter.new ≡ quarterOf g.now k) }
+    ensures { (half.new ≡ half_of g.now k) × (quarter.new ≡ quarter_of g.now k) }
 {
     half_at(2, k % 4 == 0, g, k, half);
     half_at(1, k % 2 == 0, half, k, quarter);
@@ -51,7 +51,7 @@ pub fn quarter_at(g: &[i64; 27], k: u32, half: &mut [i64; 27], quarter: &mut [i6
 // its own, which the compiler leaves out where a caller does not ask for it.
 pub fn eighth(k: u32, quarter: &[i64; 27], out: &mut [i64; 27]) -> Least
     requires { Cuttable largest quarter.now × (length out.old ≡ 27) }
-    ensures { told out.new result ≡ eighthOf (halve 0 (side 0 k) quarter.now) }
+    ensures { told out.new result ≡ eighth_of (halve 0 (side 0 k) quarter.now) }
 {
     narrow_subdivision::halve(0, cell_corners::side(0, k), quarter, out);
     let least = narrow_least::value(out);

@@ -9,7 +9,7 @@ ghost use Rattle.definitions.specs.Coefficients.{row, dot, coefficients};
 ghost use Rattle.coefficient_table.specs.Sparse.{AreSparseRows};
 ghost use Rattle.coefficient_rows.specs.Limits.{WithinLimits};
 ghost use Rattle.element_vectors.specs.Range.{InRange};
-ghost use Rattle.narrow_volumes.specs.Range.{narrowRange};
+ghost use Rattle.narrow_volumes.specs.Range.{narrow_range};
 
 use coefficient_rows::put_rows;
 
@@ -35,7 +35,7 @@ fn rows(
 
 // The 27 coefficients, times 8, in the order of their numbers. The eight points p are in place order, x, y, z of each. All of out is written.
 pub fn coefficients(p: &[i32; 24], out: &mut [i64; 27])
-    requires { InRange narrowRange p.now }
+    requires { InRange narrow_range p.now }
     ensures { out.new ≡ coefficients p.now }
 {
     let lists = coefficient_table::sparse::lists();

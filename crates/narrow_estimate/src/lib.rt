@@ -8,11 +8,11 @@ ghost use lib.IntN.{nat_abs, pos};
 ghost use Rattle.foundation.specs.Polynomial.{integers};
 ghost use Rattle.foundation.specs.Words.{Within};
 ghost use Rattle.foundation.specs.Least.{larger};
-ghost use Rattle.expansion_theory.specs.Estimate.{least, largest, twiceMiddle, width, centre, widthOn, deviation, norm, cross, fall, exceeds, estimate};
+ghost use Rattle.expansion_theory.specs.Estimate.{least, largest, twice_middle, width, centre, width_on, deviation, norm, cross, fall, exceeds, estimate};
 ghost use Rattle.element_vectors.specs.Range.{Extent, Node, narrowExtent};
 ghost use Rattle.element_vectors.specs.Vectors.{vector};
-ghost use Rattle.narrow_estimate.specs.Sizes.{vectorLimit, crossLimit, vectorNorm, crossNorm, Small};
-ghost use Rattle.narrow_estimate.specs.Parts.{of_four, oneDeviation, moreDeviations};
+ghost use Rattle.narrow_estimate.specs.Sizes.{vector_limit, cross_limit, vector_norm, cross_norm, Small};
+ghost use Rattle.narrow_estimate.specs.Parts.{of_four, one_deviation, more_deviations};
 
 use element_vectors::{determinant, edge};
 use narrow_least::lesser;
@@ -44,7 +44,7 @@ fn largest(a: i64, b: i64, c: i64, d: i64) -> i64
 // Twice the middle between the least and the largest of four numbers.
 fn twice_middle(a: i64, b: i64, c: i64, d: i64) -> i64
     requires { Within narrowExtent (a ∷ b ∷ c ∷ d ∷ []) }
-    ensures { result ≡ twiceMiddle a b c d }
+    ensures { result ≡ twice_middle a b c d }
 {
     least(a, b, c, d) + largest(a, b, c, d)
 }
@@ -97,7 +97,7 @@ fn width_on(
 ) -> i64
     requires fact_1 { Extent narrowExtent p.now }
     requires fact_2 { Node a × Node b × Node c × Node d × Node f × Node g × Node h × Node i × (e < 3) }
-    ensures { result ≡ of_four widthOn p.now a b c d f g h i e }
+    ensures { result ≡ of_four width_on p.now a b c d f g h i e }
 {
     width(
         edge(p, a, b, e),
@@ -131,7 +131,7 @@ fn deviation(
 
 // How far a number is from 0.
 fn magnitude(x: i64) -> i64
-    requires { nat_abs x ≤ crossLimit }
+    requires { nat_abs x ≤ cross_limit }
     ensures { result ≡ pos (nat_abs x) }
 {
     if x < 0 {
@@ -142,7 +142,7 @@ fn magnitude(x: i64) -> i64
 
 // The sum of the magnitudes of a vector's components.
 fn norm(x: i64, y: i64, z: i64) -> i64
-    requires { Within crossLimit (x ∷ y ∷ z ∷ []) }
+    requires { Within cross_limit (x ∷ y ∷ z ∷ []) }
     ensures { result ≡ norm (vector x y z) }
 {
     magnitude(x) + magnitude(y) + magnitude(z)
@@ -150,8 +150,8 @@ fn norm(x: i64, y: i64, z: i64) -> i64
 
 // The sum of the magnitudes of the components of v × w.
 fn cross_norm(vx: i64, vy: i64, vz: i64, wx: i64, wy: i64, wz: i64) -> i64
-    requires fact_1 { Within vectorLimit (vx ∷ vy ∷ vz ∷ []) }
-    requires fact_2 { Within vectorLimit (wx ∷ wy ∷ wz ∷ []) }
+    requires fact_1 { Within vector_limit (vx ∷ vy ∷ vz ∷ []) }
+    requires fact_2 { Within vector_limit (wx ∷ wy ∷ wz ∷ []) }
     ensures { result ≡ norm (cross integers (vector vx vy vz) (vector wx wy wz)) }
 {
     norm(vy * wz - vz * wy, vx * wz - vz * wx, vx * wy - vy * wx)
@@ -159,18 +159,18 @@ fn cross_norm(vx: i64, vy: i64, vz: i64, wx: i64, wy: i64, wz: i64) -> i64
 
 // What one deviation alone can take from the determinant: by the deviations a, b, c and the norms p, q, r of the cross products.
 fn one_deviation(a: i64, b: i64, c: i64, p: i64, q: i64, r: i64) -> i64
-    requires fact_1 { Within vectorLimit (a ∷ b ∷ c ∷ []) }
-    requires fact_2 { Within crossNorm (p ∷ q ∷ r ∷ []) }
-    ensures { result ≡ oneDeviation a b c p q r }
+    requires fact_1 { Within vector_limit (a ∷ b ∷ c ∷ []) }
+    requires fact_2 { Within cross_norm (p ∷ q ∷ r ∷ []) }
+    ensures { result ≡ one_deviation a b c p q r }
 {
     a * p + b * q + c * r
 }
 
 // What two of them and all three can take, by the norms of the vectors.
 fn more_deviations(a: i64, b: i64, c: i64, u: i64, v: i64, w: i64) -> i64
-    requires fact_1 { Within vectorLimit (a ∷ b ∷ c ∷ []) }
-    requires fact_2 { Within vectorNorm (u ∷ v ∷ w ∷ []) }
-    ensures { result ≡ moreDeviations a b c u v w }
+    requires fact_1 { Within vector_limit (a ∷ b ∷ c ∷ []) }
+    requires fact_2 { Within vector_norm (u ∷ v ∷ w ∷ []) }
+    ensures { result ≡ more_deviations a b c u v w }
 {
     2 * (a * b * w + a * c * v + b * c * u) + 6 * (a * b * c)
 }

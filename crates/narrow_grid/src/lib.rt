@@ -3,13 +3,13 @@ ghost use Rattle.std.specs.Prelude.{◌≡◌, [], ◌∷◌, ◌<◌};
 ghost use Rattle.foundation.specs.Words.{args, Within};
 ghost use Rattle.expansion_theory.specs.Rows.{line_at};
 ghost use Rattle.search_theory.specs.Meaning.{Small};
-ghost use Rattle.search_theory.specs.Grid.{middle as middle_of, middles, lowInRow, facesLow, betweenLow, gridLow};
-ghost use Rattle.narrow_rows.specs.Word.{largest, cutLargest};
+ghost use Rattle.search_theory.specs.Grid.{middle as middle_of, middles, low_in_row, faces_low, between_low, grid_low};
+ghost use Rattle.narrow_rows.specs.Word.{largest, cut_largest};
 
 // Whether one of the three points of the row p, q, r is not above 0: its ends, and its middle, which is taken four times.
 fn low_in_row(p: i64, q: i64, r: i64) -> bool
-    requires { Within cutLargest (p ∷ q ∷ r ∷ []) }
-    ensures { result ≡ lowInRow (args (p ∷ q ∷ r ∷ [])) }
+    requires { Within cut_largest (p ∷ q ∷ r ∷ []) }
+    ensures { result ≡ low_in_row (args (p ∷ q ∷ r ∷ [])) }
 {
     let m = narrow_rows::end(p, q, r);
     (p <= 0) | ((r <= 0) | (m <= 0))
@@ -18,7 +18,7 @@ fn low_in_row(p: i64, q: i64, r: i64) -> bool
 // The row of the coefficients x, y, z.
 fn low_at(g: &[i64; 27], x: usize, y: usize, z: usize) -> bool
     requires { Small largest g.now 1 × (x < 27) × (y < 27) × (z < 27) }
-    ensures { result ≡ lowInRow (args (line_at g.now x y z)) }
+    ensures { result ≡ low_in_row (args (line_at g.now x y z)) }
 {
     let p = g[x];
     let q = g[y];
@@ -51,7 +51,7 @@ fn low_across(
     z: usize,
 ) -> bool
     requires { Small largest g.now 1 × (a < 27) × (b < 27) × (c < 27) × (d < 27) × (e < 27) × (f < 27) × (x < 27) × (y < 27) × (z < 27) }
-    ensures { result ≡ lowInRow (middles (line_at g.now a b c) (line_at g.now d e f) (line_at g.now x y z)) }
+    ensures { result ≡ low_in_row (middles (line_at g.now a b c) (line_at g.now d e f) (line_at g.now x y z)) }
 {
     low_in_row(
         middle_at(g, a, b, c),
@@ -86,7 +86,7 @@ fn middle_across(
 // The start of the cell in ξ: a face, of three rows in ζ; and its end.
 fn low_in_faces(g: &[i64; 27]) -> bool
     requires { Small largest g.now 1 }
-    ensures { result ≡ facesLow g.now }
+    ensures { result ≡ faces_low g.now }
 {
     let start = low_at(g, 0, 12, 4)
         | (low_at(g, 3, 15, 7) | low_across(g, 0, 11, 3, 12, 24, 15, 4, 19, 7));
@@ -98,7 +98,7 @@ fn low_in_faces(g: &[i64; 27]) -> bool
 // The plane between them: the middles of the nine rows in ξ.
 fn low_between(g: &[i64; 27]) -> bool
     requires { Small largest g.now 1 }
-    ensures { result ≡ betweenLow g.now }
+    ensures { result ≡ between_low g.now }
 {
     let u = middle_across(g, 0, 8, 1, 11, 20, 9, 3, 10, 2);
     let v = middle_across(g, 12, 21, 13, 24, 26, 22, 15, 23, 14);
@@ -110,7 +110,7 @@ fn low_between(g: &[i64; 27]) -> bool
 // Whether J is not above 0 at one of the 27 points.
 pub fn low(g: &[i64; 27]) -> bool
     requires { Small largest g.now 1 }
-    ensures { result ≡ gridLow g.now }
+    ensures { result ≡ grid_low g.now }
 {
     low_in_faces(g) | low_between(g)
 }

@@ -1,12 +1,12 @@
 // The halves of a cell in each direction, row by row, with numbers of one word. An inner crate, for `narrow_subdivision`.
 ghost use Rattle.expansion_theory.specs.Rows.{Holds};
-ghost use Rattle.narrow_rows.specs.Word.{cutLargest};
+ghost use Rattle.narrow_rows.specs.Word.{cut_largest};
 
 // The lower half of c in direction ξ, row by row. The numbers of each row are written out, here and below, so that the
 // compiler knows them.
 pub fn lower_xi(c: &[i64; 27], out: &mut [i64; 27])
-    requires { Holds cutLargest 0 0 0 c.now out.old }
-    ensures { Holds cutLargest 0 0 9 c.now out.new }
+    requires { Holds cut_largest 0 0 0 c.now out.old }
+    ensures { Holds cut_largest 0 0 9 c.now out.new }
 {
     narrow_rows::lower_row(c, 0, 0, 0, 8, 1, out);
     narrow_rows::lower_row(c, 0, 1, 12, 21, 13, out);
@@ -21,8 +21,8 @@ pub fn lower_xi(c: &[i64; 27], out: &mut [i64; 27])
 
 // The lower half of c in direction η, row by row.
 pub fn lower_eta(c: &[i64; 27], out: &mut [i64; 27])
-    requires { Holds cutLargest 1 0 0 c.now out.old }
-    ensures { Holds cutLargest 1 0 9 c.now out.new }
+    requires { Holds cut_largest 1 0 0 c.now out.old }
+    ensures { Holds cut_largest 1 0 9 c.now out.new }
 {
     narrow_rows::lower_row(c, 1, 0, 0, 11, 3, out);
     narrow_rows::lower_row(c, 1, 1, 12, 24, 15, out);
@@ -37,8 +37,8 @@ pub fn lower_eta(c: &[i64; 27], out: &mut [i64; 27])
 
 // The lower half of c in direction ζ, row by row.
 pub fn lower_zeta(c: &[i64; 27], out: &mut [i64; 27])
-    requires { Holds cutLargest 2 0 0 c.now out.old }
-    ensures { Holds cutLargest 2 0 9 c.now out.new }
+    requires { Holds cut_largest 2 0 0 c.now out.old }
+    ensures { Holds cut_largest 2 0 9 c.now out.new }
 {
     narrow_rows::lower_row(c, 2, 0, 0, 12, 4, out);
     narrow_rows::lower_row(c, 2, 1, 11, 24, 19, out);
@@ -53,8 +53,8 @@ pub fn lower_zeta(c: &[i64; 27], out: &mut [i64; 27])
 
 // The upper half of c in direction ξ, row by row.
 pub fn upper_xi(c: &[i64; 27], out: &mut [i64; 27])
-    requires { Holds cutLargest 0 1 0 c.now out.old }
-    ensures { Holds cutLargest 0 1 9 c.now out.new }
+    requires { Holds cut_largest 0 1 0 c.now out.old }
+    ensures { Holds cut_largest 0 1 9 c.now out.new }
 {
     narrow_rows::upper_row(c, 0, 0, 0, 8, 1, out);
     narrow_rows::upper_row(c, 0, 1, 12, 21, 13, out);
@@ -69,8 +69,8 @@ pub fn upper_xi(c: &[i64; 27], out: &mut [i64; 27])
 
 // The upper half of c in direction η, row by row.
 pub fn upper_eta(c: &[i64; 27], out: &mut [i64; 27])
-    requires { Holds cutLargest 1 1 0 c.now out.old }
-    ensures { Holds cutLargest 1 1 9 c.now out.new }
+    requires { Holds cut_largest 1 1 0 c.now out.old }
+    ensures { Holds cut_largest 1 1 9 c.now out.new }
 {
     narrow_rows::upper_row(c, 1, 0, 0, 11, 3, out);
     narrow_rows::upper_row(c, 1, 1, 12, 24, 15, out);
@@ -85,8 +85,8 @@ pub fn upper_eta(c: &[i64; 27], out: &mut [i64; 27])
 
 // The upper half of c in direction ζ, row by row.
 pub fn upper_zeta(c: &[i64; 27], out: &mut [i64; 27])
-    requires { Holds cutLargest 2 1 0 c.now out.old }
-    ensures { Holds cutLargest 2 1 9 c.now out.new }
+    requires { Holds cut_largest 2 1 0 c.now out.old }
+    ensures { Holds cut_largest 2 1 9 c.now out.new }
 {
     narrow_rows::upper_row(c, 2, 0, 0, 12, 4, out);
     narrow_rows::upper_row(c, 2, 1, 11, 24, 19, out);

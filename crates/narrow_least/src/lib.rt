@@ -1,8 +1,8 @@
 // The least of a cell's 27 coefficients and the lowest number that holds it, with numbers of one word. An inner crate, for `narrow_children`
 // and `narrow_bounds`.
 ghost use Rattle.std.specs.Prelude.{◌≡◌, ◌<◌, length};
-ghost use Rattle.foundation.specs.Least.{lesser as lesserOf, leastFrom, leastOf};
-ghost use Rattle.definitions.specs.Eighths.{leastNumber, eighthOf};
+ghost use Rattle.foundation.specs.Least.{lesser as lesserOf, least_from, least_of};
+ghost use Rattle.definitions.specs.Eighths.{least_number, eighth_of};
 ghost use Rattle.expansion_theory.specs.Rows.{line_at};
 ghost use Rattle.narrow_least.specs.Meaning.{told};
 
@@ -25,7 +25,7 @@ pub fn lesser(x: i64, y: i64) -> i64
 // The least of v and the coefficients x, y and z. Those three are compared with each other first, so that v is waited for once.
 fn with_row(g: &[i64; 27], x: usize, y: usize, z: usize, v: i64) -> i64
     requires { (x < 27) × (y < 27) × (z < 27) }
-    ensures { result ≡ leastFrom v (line_at g.now x y z) }
+    ensures { result ≡ least_from v (line_at g.now x y z) }
 {
     let p = g[x];
     let q = g[y];
@@ -38,7 +38,7 @@ fn with_row(g: &[i64; 27], x: usize, y: usize, z: usize, v: i64) -> i64
 // The least of the 27, row by row in ξ: of numbers that lie side by side the compiler would compare two at a time, which takes longer.
 pub fn value(g: &[i64; 27]) -> i64
     requires { length g.now ≡ 27 }
-    ensures { result ≡ leastOf g.now }
+    ensures { result ≡ least_of g.now }
 {
     let first = g[0];
     let a = with_row(g, 0, 8, 1, first);
@@ -54,8 +54,8 @@ pub fn value(g: &[i64; 27]) -> i64
 
 // The lowest number of the 27 that holds the least, v.
 pub fn number(g: &[i64; 27], v: i64) -> usize
-    requires { (length g.now ≡ 27) × (v ≡ leastOf g.now) }
-    ensures { result ≡ leastNumber g.now }
+    requires { (length g.now ≡ 27) × (v ≡ least_of g.now) }
+    ensures { result ≡ least_number g.now }
 {
     for k in 0..27 {
         let x = g[k];
@@ -69,7 +69,7 @@ pub fn number(g: &[i64; 27], v: i64) -> usize
 // Both, of these 27.
 pub fn least_of(g: &[i64; 27]) -> Least
     requires { length g.now ≡ 27 }
-    ensures { told g.now result ≡ eighthOf g.now }
+    ensures { told g.now result ≡ eighth_of g.now }
 {
     let v = value(g);
     Least {

@@ -2,29 +2,29 @@
 ghost use Rattle.std.specs.Prelude.{◌≡◌, [], ◌∷◌, ◌+◌, ◌<◌, length, set};
 ghost use Rattle.foundation.specs.Polynomial.{integers};
 ghost use Rattle.foundation.specs.Words.{args, Within};
-ghost use Rattle.definitions.specs.Subdivision.{cutRow};
+ghost use Rattle.definitions.specs.Subdivision.{cut_row};
 ghost use Rattle.expansion_theory.specs.Rows.{Row, Holds};
-ghost use Rattle.narrow_rows.specs.Word.{cutLargest};
+ghost use Rattle.narrow_rows.specs.Word.{cut_largest};
 
 // The lower half of the row p, q, r, four times larger: its three entries. The upper half is that of r, q, p, from its end to its start.
 fn start(p: i64, q: i64, r: i64) -> i64
-    requires { Within cutLargest (p ∷ q ∷ r ∷ []) }
-    ensures { result ≡ cutRow integers 0 (args (p ∷ q ∷ r ∷ [])) 0 }
+    requires { Within cut_largest (p ∷ q ∷ r ∷ []) }
+    ensures { result ≡ cut_row integers 0 (args (p ∷ q ∷ r ∷ [])) 0 }
 {
     4 * p
 }
 
 fn middle(p: i64, q: i64, r: i64) -> i64
-    requires { Within cutLargest (p ∷ q ∷ r ∷ []) }
-    ensures { result ≡ cutRow integers 0 (args (p ∷ q ∷ r ∷ [])) 1 }
+    requires { Within cut_largest (p ∷ q ∷ r ∷ []) }
+    ensures { result ≡ cut_row integers 0 (args (p ∷ q ∷ r ∷ [])) 1 }
 {
     let s = p + q;
     2 * s
 }
 
 pub fn end(p: i64, q: i64, r: i64) -> i64
-    requires { Within cutLargest (p ∷ q ∷ r ∷ []) }
-    ensures { result ≡ cutRow integers 0 (args (p ∷ q ∷ r ∷ [])) 2 }
+    requires { Within cut_largest (p ∷ q ∷ r ∷ []) }
+    ensures { result ≡ cut_row integers 0 (args (p ∷ q ∷ r ∷ [])) 2 }
 {
     let t = 2 * q;
     let s = p + t;
@@ -52,8 +52,8 @@ pub fn lower_row(
     out: &mut [i64; 27],
 )
     requires row { Row d j x y z }
-    requires holds { Holds cutLargest d 0 j c.now out.old }
-    ensures { Holds cutLargest d 0 (j + 1) c.now out.new }
+    requires holds { Holds cut_largest d 0 j c.now out.old }
+    ensures { Holds cut_largest d 0 (j + 1) c.now out.new }
 {
     let p = c[x];
     let q = c[y];
@@ -72,8 +72,8 @@ pub fn upper_row(
     out: &mut [i64; 27],
 )
     requires row { Row d j x y z }
-    requires holds { Holds cutLargest d 1 j c.now out.old }
-    ensures { Holds cutLargest d 1 (j + 1) c.now out.new }
+    requires holds { Holds cut_largest d 1 j c.now out.old }
+    ensures { Holds cut_largest d 1 (j + 1) c.now out.new }
 {
     let p = c[x];
     let q = c[y];

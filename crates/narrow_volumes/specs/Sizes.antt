@@ -1,40 +1,40 @@
 -- Magnitudes of volumes, computed from the range of coordinates.
 use Rattle.std.specs.Prelude.{List, map, ℕ, ◌≤◌, ℤ, nat_abs}
 use Rattle.std.proofs.Common.{le_trans, lit≤}
-use Rattle.foundation.specs.Lists.{all_append, all-image, all-every}
+use Rattle.foundation.specs.Lists.{all_append, all_image, all_every}
 use Rattle.foundation.specs.Polynomial.{integers, expressions}
 use Rattle.foundation.specs.Words.{within}
-use Rattle.definitions.specs.Jacobian.{nodesOf}
-use Rattle.definitions.specs.Coefficients.{cornerVolume, edgeVolume, volumes, cornerTetrahedra, edgeTetrahedra}
+use Rattle.definitions.specs.Jacobian.{nodes_of}
+use Rattle.definitions.specs.Coefficients.{corner_volume, edge_volume, volumes, corner_tetrahedra, edge_tetrahedra}
 use Rattle.element_vectors.specs.Range.{InRange}
 use Rattle.element_vectors.specs.Sizes.{unknowns, bounded}
-use Rattle.narrow_volumes.specs.Range.{narrowRange, volumeLimit}
+use Rattle.narrow_volumes.specs.Range.{narrow_range, volume_limit}
 
-module _ {xs : List ℤ} (h : InRange narrowRange xs) where
-  corner-small : (t : List ℕ) → nat_abs (cornerVolume integers (nodesOf xs) t) ≤ volumeLimit
-  corner-small t = le_trans (bounded h (cornerVolume expressions unknowns t)) (lit≤ tt)
+module _ {xs : List ℤ} (h : InRange narrow_range xs) where
+  corner_small : (t : List ℕ) → nat_abs (corner_volume integers (nodes_of xs) t) ≤ volume_limit
+  corner_small t = le_trans (bounded h (corner_volume expressions unknowns t)) (lit≤ tt)
 
-  edge-volume-small : (t : List ℕ) → nat_abs (edgeVolume integers (nodesOf xs) t) ≤ volumeLimit
-  edge-volume-small t = le_trans (bounded h (edgeVolume expressions unknowns t)) (lit≤ tt)
+  edge_volume_small : (t : List ℕ) → nat_abs (edge_volume integers (nodes_of xs) t) ≤ volume_limit
+  edge_volume_small t = le_trans (bounded h (edge_volume expressions unknowns t)) (lit≤ tt)
 
-  pub volumes-small : InRange volumeLimit (volumes integers (nodesOf xs))
-  volumes-small = record {
-    small = within volumeLimit (volumes integers (nodesOf xs)) (all_append Small corners edges
-        (all-image Small at-corner cornerTetrahedra (all-every (λ t. Small (at-corner t)) corner-small cornerTetrahedra))
-        (all-image Small at-middle edgeTetrahedra (all-every (λ t. Small (at-middle t)) edge-volume-small edgeTetrahedra)));
+  pub volumes_small : InRange volume_limit (volumes integers (nodes_of xs))
+  volumes_small = record {
+    small = within volume_limit (volumes integers (nodes_of xs)) (all_append Small corners edges
+        (all_image Small at_corner_law corner_tetrahedra (all_every (λ t. Small (at_corner_law t)) corner_small corner_tetrahedra))
+        (all_image Small at_middle edge_tetrahedra (all_every (λ t. Small (at_middle t)) edge_volume_small edge_tetrahedra)));
   }
     where
       Small : ℤ → Type 0
-      Small x = nat_abs x ≤ volumeLimit
+      Small x = nat_abs x ≤ volume_limit
 
-      at-corner : List ℕ → ℤ
-      at-corner = cornerVolume integers (nodesOf xs)
+      at_corner_law : List ℕ → ℤ
+      at_corner_law = corner_volume integers (nodes_of xs)
 
-      at-middle : List ℕ → ℤ
-      at-middle = edgeVolume integers (nodesOf xs)
+      at_middle : List ℕ → ℤ
+      at_middle = edge_volume integers (nodes_of xs)
 
       corners : List ℤ
-      corners = map at-corner cornerTetrahedra
+      corners = map at_corner_law corner_tetrahedra
 
       edges : List ℤ
-      edges = map at-middle edgeTetrahedra
+      edges = map at_middle edge_tetrahedra

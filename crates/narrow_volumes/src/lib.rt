@@ -1,18 +1,18 @@
 // An inner crate, for `narrow_coefficients`. The twenty volumes: J at the corners and four times J at the edge middles, each a determinant of three vectors. Nodes go by their numbers, 1 to 8.
 ghost use Rattle.std.specs.Prelude.{◌≡◌, [], ◌∷◌};
 ghost use Rattle.foundation.specs.Polynomial.{integers};
-ghost use Rattle.definitions.specs.Jacobian.{nodesOf};
-ghost use Rattle.definitions.specs.Coefficients.{cornerVolume, edgeVolume, volumes};
+ghost use Rattle.definitions.specs.Jacobian.{nodes_of};
+ghost use Rattle.definitions.specs.Coefficients.{corner_volume, edge_volume, volumes};
 ghost use Rattle.element_vectors.specs.Range.{InRange, Node};
-ghost use Rattle.narrow_volumes.specs.Range.{narrowRange};
+ghost use Rattle.narrow_volumes.specs.Range.{narrow_range};
 
 use element_vectors::{determinant, edge, middle};
 
 // J at corner a, whose neighbours are b, c, d.
 fn at_corner(p: &[i32; 24], a: usize, b: usize, c: usize, d: usize) -> i64
-    requires fact_1 { InRange narrowRange p.now }
+    requires fact_1 { InRange narrow_range p.now }
     requires fact_2 { Node a × Node b × Node c × Node d }
-    ensures { result ≡ cornerVolume integers (nodesOf p.now) (a ∷ b ∷ c ∷ d ∷ []) }
+    ensures { result ≡ corner_volume integers (nodes_of p.now) (a ∷ b ∷ c ∷ d ∷ []) }
 {
     determinant(
         edge(p, a, b, 0),
@@ -29,9 +29,9 @@ fn at_corner(p: &[i32; 24], a: usize, b: usize, c: usize, d: usize) -> i64
 
 // Four times J at the middle of edge a-b. The tetrahedron's other vertices are the middles of c and d and of e and f.
 fn at_edge(p: &[i32; 24], a: usize, b: usize, c: usize, d: usize, e: usize, f: usize) -> i64
-    requires fact_1 { InRange narrowRange p.now }
+    requires fact_1 { InRange narrow_range p.now }
     requires fact_2 { Node a × Node b × Node c × Node d × Node e × Node f }
-    ensures { result ≡ edgeVolume integers (nodesOf p.now) (a ∷ b ∷ c ∷ d ∷ e ∷ f ∷ []) }
+    ensures { result ≡ edge_volume integers (nodes_of p.now) (a ∷ b ∷ c ∷ d ∷ e ∷ f ∷ []) }
 {
     determinant(
         edge(p, a, b, 0),
@@ -48,8 +48,8 @@ fn at_edge(p: &[i32; 24], a: usize, b: usize, c: usize, d: usize, e: usize, f: u
 
 // The twenty volumes, corners 1 to 8 and then edges 9 to 20, each by the nodes of its tetrahedron.
 pub fn volumes(p: &[i32; 24]) -> [i64; 20]
-    requires { InRange narrowRange p.now }
-    ensures { result ≡ volumes integers (nodesOf p.now) }
+    requires { InRange narrow_range p.now }
+    ensures { result ≡ volumes integers (nodes_of p.now) }
 {
     [
         at_corner(p, 1, 2, 4, 5),

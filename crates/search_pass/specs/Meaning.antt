@@ -7,10 +7,10 @@ use Rattle.verdict_theory.specs.Search.{Found, nothing, coefficient, point, Pass
 abbrev pub layout : ℕ → ℕ → ℕ → ℕ → ℕ → ℤ → ℕ → List ℤ
 layout kind a b c number value count = pos kind ∷ pos a ∷ pos b ∷ pos c ∷ pos number ∷ (two_words value ++ (pos count ∷ []))
 
-abbrev pub foundWords : Found → ℕ → List ℤ
-foundWords nothing n = layout 0 0 0 0 0 (pos 0) n
-foundWords (coefficient f) n = layout 2 f.a f.b f.c f.number f.value n
-foundWords (point f) n = layout 1 f.a f.b f.c f.number f.value n
+abbrev pub found_words : Found → ℕ → List ℤ
+found_words nothing n = layout 0 0 0 0 0 (pos 0) n
+found_words (coefficient f) n = layout 2 f.a f.b f.c f.number f.value n
+found_words (point f) n = layout 1 f.a f.b f.c f.number f.value n
 
-abbrev pub passWords : Pass → List ℤ
-passWords p = foundWords p.found p.count
+abbrev pub pass_words : Pass → List ℤ
+pass_words p = found_words p.found p.count

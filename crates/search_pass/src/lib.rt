@@ -1,14 +1,14 @@
 // A pass of the search: what it found and how many cells it opened, in eight words that are lent and changed where they lie; a value is in
 // two of them. An inner crate, for `search_opening` and the two searches.
 ghost use Rattle.std.specs.Prelude.{◌≡◌};
-ghost use Rattle.definitions.specs.Record.{verdictWords};
-ghost use Rattle.verdict_theory.specs.Search.{Pass, ended as hasEnded};
+ghost use Rattle.definitions.specs.Record.{verdict_words};
+ghost use Rattle.verdict_theory.specs.Search.{Pass, ended as has_ended};
 ghost use Rattle.verdict_theory.specs.Clear.{more};
 ghost use Rattle.search_theory.specs.Meaning.{Held};
-ghost use Rattle.search_theory.specs.Visit.{isBlocked};
+ghost use Rattle.search_theory.specs.Visit.{is_blocked};
 ghost use Rattle.search_theory.specs.Levels.{outcome};
 ghost use Rattle.wide_number.specs.Meaning.{value_of};
-ghost use Rattle.search_pass.specs.Meaning.{layout, passWords};
+ghost use Rattle.search_pass.specs.Meaning.{layout, pass_words};
 
 use limits::RECORD_WORDS;
 use wide_number::Wide;
@@ -19,7 +19,7 @@ pub const PASS_WORDS: usize = 8;
 
 // Whether a low corner was found.
 pub fn ended(pass: &[i64; PASS_WORDS]) -> bool
-    ensures { (p : Pass) → pass.now ≡ passWords p → result ≡ hasEnded p.found }
+    ensures { (p : Pass) → pass.now ≡ pass_words p → result ≡ has_ended p.found }
 {
     let kind = pass[0];
     kind == 1
@@ -27,8 +27,8 @@ pub fn ended(pass: &[i64; PASS_WORDS]) -> bool
 
 // So many cells more were opened.
 pub fn add_opened(n: u32, pass: &mut [i64; PASS_WORDS])
-    requires { Held passWords n pass.old }
-    ensures { (p : Pass) → pass.old ≡ passWords p → pass.new ≡ passWords (more n p) }
+    requires { Held pass_words n pass.old }
+    ensures { (p : Pass) → pass.old ≡ pass_words p → pass.new ≡ pass_words (more n p) }
 {
     let count = pass[7];
     pass[7] = count + n as i64;
@@ -44,7 +44,7 @@ pub fn note(
     value: Wide,
     pass: &mut [i64; PASS_WORDS],
 )
-    ensures { (p : Pass) → pass.old ≡ passWords p → pass.new ≡ layout kind a b c number (value_of value) p.count }
+    ensures { (p : Pass) → pass.old ≡ pass_words p → pass.new ≡ layout kind a b c number (value_of value) p.count }
 {
     pass[0] = kind as i64;
     pass[1] = a as i64;
@@ -59,7 +59,7 @@ pub fn note(
 
 // Whether a pass found a low coefficient and no low corner.
 pub fn blocked(pass: &[i64; PASS_WORDS]) -> bool
-    ensures { (p : Pass) → pass.now ≡ passWords p → result ≡ isBlocked p.found }
+    ensures { (p : Pass) → pass.now ≡ pass_words p → result ≡ is_blocked p.found }
 {
     let kind = pass[0];
     kind == 2
@@ -67,7 +67,7 @@ pub fn blocked(pass: &[i64; PASS_WORDS]) -> bool
 
 // The record that the last pass, that of a level, comes to.
 pub fn settled(level: u32, pass: &[i64; PASS_WORDS]) -> [i64; RECORD_WORDS]
-    ensures { (p : Pass) → pass.now ≡ passWords p → result ≡ verdictWords (outcome level p.found) p.count }
+    ensures { (p : Pass) → pass.now ≡ pass_words p → result ≡ verdict_words (outcome level p.found) p.count }
 {
     let kind = pass[0];
     let a = pass[1];

@@ -4,35 +4,35 @@ use Rattle.std.proofs.Math.Path.{sym}
 use Rattle.std.proofs.Common.{◌∙◌, ap, eq-eqb, ne_eqb, le-leb}
 use Rattle.std.proofs.lemmas.Bool.{lt-leb}
 use Rattle.definitions.specs.Limits.{base}
-use Rattle.lot_format.specs.Runs.{Runs, lotFrom}
-use Rattle.lot_format.specs.Reading.{unreadableNumber, tooManyElements}
-use Rattle.lot_reader.specs.Promise.{asRead}
-use Rattle.slip_format.specs.Slip.{slipLimits, refusedLine, meshSlip, slipIf}
+use Rattle.lot_format.specs.Runs.{Runs, lot_from}
+use Rattle.lot_format.specs.Reading.{unreadable_number, too_many_elements}
+use Rattle.lot_reader.specs.Promise.{as_read}
+use Rattle.slip_format.specs.Slip.{slip_limits, refused_line, mesh_slip, slip_if}
 
 -- the slip by the answer: its number, and how many elements it counts
-unfoldable pub answeredSlip : Runs → List ℕ → List ℕ
-answeredSlip now answer = elim (eqb (get_or answer 0 0) 0) [
-  | false ↦ refusedLine (get_or answer 0 0)
-  | true ↦ slipIf (leb (get_or answer 2 0) slipLimits.elements) (meshSlip base slipLimits.depth (lotFrom (asRead now answer)))
+unfoldable pub answered_slip : Runs → List ℕ → List ℕ
+answered_slip now answer = elim (eqb (get_or answer 0 0) 0) [
+  | false ↦ refused_line (get_or answer 0 0)
+  | true ↦ slip_if (leb (get_or answer 2 0) slip_limits.elements) (mesh_slip base slip_limits.depth (lot_from (as_read now answer)))
 ]
 
 module _ (now : Runs) (answer : List ℕ) where
-  abbrev pub countedBy : Bool → List ℕ
-  countedBy b = slipIf b (meshSlip base slipLimits.depth (lotFrom (asRead now answer)))
+  abbrev pub counted_by : Bool → List ℕ
+  counted_by b = slip_if b (mesh_slip base slip_limits.depth (lot_from (as_read now answer)))
 
-  abbrev numberedBy : Bool → List ℕ
-  numberedBy b = elim b [ false ↦ refusedLine (get_or answer 0 0) | true ↦ countedBy (leb (get_or answer 2 0) slipLimits.elements) ]
+  abbrev numbered_by : Bool → List ℕ
+  numbered_by b = elim b [ false ↦ refused_line (get_or answer 0 0) | true ↦ counted_by (leb (get_or answer 2 0) slip_limits.elements) ]
 
-  pub refused-by : (get_or answer 0 0 ≡ 0 → ⊥) → refusedLine (get_or answer 0 0) ≡ answeredSlip now answer
-  unfolding answeredSlip
-  refused-by h = sym (ap numberedBy (ne_eqb (get_or answer 0 0) 0 h))
+  pub refused_by : (get_or answer 0 0 ≡ 0 → ⊥) → refused_line (get_or answer 0 0) ≡ answered_slip now answer
+  unfolding answered_slip
+  refused_by h = sym (ap numbered_by (ne_eqb (get_or answer 0 0) 0 h))
 
-  pub counted-by : get_or answer 0 0 ≡ 0 → (b : Bool) → leb (get_or answer 2 0) slipLimits.elements ≡ b → countedBy b ≡ answeredSlip now answer
-  unfolding answeredSlip
-  counted-by z b e = sym (ap countedBy e) ∙ sym (ap numberedBy (eq-eqb (get_or answer 0 0) 0 z))
+  pub counted_by_law : get_or answer 0 0 ≡ 0 → (b : Bool) → leb (get_or answer 2 0) slip_limits.elements ≡ b → counted_by b ≡ answered_slip now answer
+  unfolding answered_slip
+  counted_by_law z b e = sym (ap counted_by e) ∙ sym (ap numbered_by (eq-eqb (get_or answer 0 0) 0 z))
 
-  pub many_by : get_or answer 0 0 ≡ 0 → slipLimits.elements < get_or answer 2 0 → refusedLine (unreadableNumber tooManyElements) ≡ answeredSlip now answer
-  many_by z h = counted-by z false (lt-leb (get_or answer 2 0) slipLimits.elements h)
+  pub many_by : get_or answer 0 0 ≡ 0 → slip_limits.elements < get_or answer 2 0 → refused_line (unreadable_number too_many_elements) ≡ answered_slip now answer
+  many_by z h = counted_by_law z false (lt-leb (get_or answer 2 0) slip_limits.elements h)
 
-  pub few-by : get_or answer 0 0 ≡ 0 → get_or answer 2 0 ≤ slipLimits.elements → meshSlip base slipLimits.depth (lotFrom (asRead now answer)) ≡ answeredSlip now answer
-  few-by z h = counted-by z true (le-leb (get_or answer 2 0) slipLimits.elements h)
+  pub few_by : get_or answer 0 0 ≡ 0 → get_or answer 2 0 ≤ slip_limits.elements → mesh_slip base slip_limits.depth (lot_from (as_read now answer)) ≡ answered_slip now answer
+  few_by z h = counted_by_law z true (le-leb (get_or answer 2 0) slip_limits.elements h)

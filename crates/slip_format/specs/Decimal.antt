@@ -10,6 +10,6 @@ digits (suc k) x = elim (ltb x 10) [ true ↦ (48 + x) ∷ [] | false ↦ digits
 unfoldable pub decimal : ℕ → List ℕ
 decimal x = digits (suc x) x
 
-abbrev pub signedDecimal : ℤ → List ℕ
-signedDecimal (pos x) = decimal x
-signedDecimal (negsuc x) = 45 ∷ decimal (suc x)
+abbrev pub signed_decimal : ℤ → List ℕ
+signed_decimal (pos x) = decimal x
+signed_decimal (negsuc x) = 45 ∷ decimal (suc x)

@@ -1,11 +1,11 @@
 -- Words, each behind a space; and so the words behind the first of a line, and its end.
 use Rattle.std.specs.Prelude.{List, [], ◌∷◌, ◌++◌, ℕ}
 use Rattle.std.proofs.Common.{append_assoc}
-use Rattle.foundation.specs.Lists.{concatMap}
+use Rattle.foundation.specs.Lists.{concat_map}
 use Rattle.bytes_output.specs.Progress.{Next}
 
 abbrev pub spaced : List (List ℕ) → List ℕ
-spaced ws = concatMap (λ (w : List ℕ). 32 ∷ w) ws
+spaced ws = concat_map (λ (w : List ℕ). 32 ∷ w) ws
 
 abbrev pub ending : List (List ℕ) → List ℕ
 ending ws = spaced ws ++ (10 ∷ [])

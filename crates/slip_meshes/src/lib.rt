@@ -2,11 +2,11 @@
 // inner crate: its callers see that there is room, and that the words which an answer of the reader counts are there. Every text is the one
 // that `Slip` of the crate `slip_format` defines.
 ghost use Rattle.std.specs.Prelude.{◌≡◌, ◌+◌, ◌*◌, ◌/◌, ◌≤◌, length, get_or};
-ghost use Rattle.definitions.specs.Limits.{recordWords, base};
-ghost use Rattle.slip_format.specs.Slip.{slipLimits, meshSlip};
-ghost use Rattle.lot_format.specs.Runs.{lotFrom};
+ghost use Rattle.definitions.specs.Limits.{record_words, base};
+ghost use Rattle.slip_format.specs.Slip.{slip_limits, mesh_slip};
+ghost use Rattle.lot_format.specs.Runs.{lot_from};
 ghost use Rattle.bytes_output.specs.Behind.{Laid};
-ghost use Rattle.lot_reader.specs.Promise.{asRead};
+ghost use Rattle.lot_reader.specs.Promise.{as_read};
 ghost use Rattle.slip_meshes.specs.Counted.{lent, Counted};
 
 use inspection_answers::Inspection;
@@ -24,9 +24,9 @@ fn mesh_slip<'a>(
     offsets: &[u32],
     report: &mut [i64],
 ) -> usize
-    requires elements_len_bound { (length elements.now / 8 ≤ slipLimits.elements) × (length report.old ≡ recordWords * (length elements.now / 8)) }
-    requires offsets_in_bounds { at + length (meshSlip base slipLimits.depth (lotFrom (record { label = label.now; nodes = nodes.now; elements = elements.now; names = names.now; lengths = lengths.now; offsets = offsets.now }))) ≤ length out.old }
-    ensures { Laid at (meshSlip base slipLimits.depth (lotFrom (record { label = label.entry.now; nodes = nodes.now; elements = elements.now; names = names.now; lengths = lengths.now; offsets = offsets.now }))) out.old out.new result }
+    requires elements_len_bound { (length elements.now / 8 ≤ slip_limits.elements) × (length report.old ≡ record_words * (length elements.now / 8)) }
+    requires offsets_in_bounds { at + length (mesh_slip base slip_limits.depth (lot_from (record { label = label.now; nodes = nodes.now; elements = elements.now; names = names.now; lengths = lengths.now; offsets = offsets.now }))) ≤ length out.old }
+    ensures { Laid at (mesh_slip base slip_limits.depth (lot_from (record { label = label.entry.now; nodes = nodes.now; elements = elements.now; names = names.now; lengths = lengths.now; offsets = offsets.now }))) out.old out.new result }
 {
     let answer = inspector::inspect(nodes, elements, limits::SLIP_DEPTH, report);
     match answer {
@@ -53,9 +53,9 @@ pub fn read_slip<'a>(
     report: &mut [i64],
     answer: [u32; 5],
 ) -> usize
-    requires counted { Counted (lent label.now nodes.now elements.now names.now lengths.now offsets.now) answer × (length report.old ≡ recordWords * slipLimits.elements) × (get_or answer 2 0 ≤ slipLimits.elements) }
-    requires answer_in_bounds { at + length (meshSlip base slipLimits.depth (lotFrom (asRead (lent label.now nodes.now elements.now names.now lengths.now offsets.now) answer))) ≤ length out.old }
-    ensures { Laid at (meshSlip base slipLimits.depth (lotFrom (asRead (lent label.now nodes.now elements.now names.now lengths.now offsets.now) answer))) out.old out.new result }
+    requires counted { Counted (lent label.now nodes.now elements.now names.now lengths.now offsets.now) answer × (length report.old ≡ record_words * slip_limits.elements) × (get_or answer 2 0 ≤ slip_limits.elements) }
+    requires answer_in_bounds { at + length (mesh_slip base slip_limits.depth (lot_from (as_read (lent label.now nodes.now elements.now names.now lengths.now offsets.now) answer))) ≤ length out.old }
+    ensures { Laid at (mesh_slip base slip_limits.depth (lot_from (as_read (lent label.now nodes.now elements.now names.now lengths.now offsets.now) answer))) out.old out.new result }
 {
     let coordinates = 3 * answer[1] as usize;
     let indices = 8 * answer[2] as usize;

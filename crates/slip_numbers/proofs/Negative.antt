@@ -11,29 +11,29 @@ use lib.Signed.{lt_z, non_neg}
 use mir.Syntax.{w64}
 use mir.Val.{SFits, Fits, to_z, of_z}
 use mir.Facts.{to_z-of_z}
-use Rattle.foundation.specs.Words.{signedLimit}
-use Rattle.foundation.specs.Magnitude.{magnitude-neg}
-use Rattle.foundation.specs.Words.{sfits-below}
-use Rattle.slip_format.specs.Decimal.{decimal, signedDecimal}
+use Rattle.foundation.specs.Words.{signed_limit}
+use Rattle.foundation.specs.Magnitude.{magnitude_neg}
+use Rattle.foundation.specs.Words.{sfits_below}
+use Rattle.slip_format.specs.Decimal.{decimal, signed_decimal}
 
 pub record Negative (w : ℤ) : Type 0 where
   pub less : ℕ
   pub is : w ≡ negsuc less
-  pub small : less < signedLimit
+  pub small : less < signed_limit
 
-not-below : (n : ℕ) → T (lt_z (pos n) (pos 0)) → ⊥
-not-below n t = let h : n < 0 = ltb→lt n 0 t in omega arith
+not_below : (n : ℕ) → T (lt_z (pos n) (pos 0)) → ⊥
+not_below n t = let h : n < 0 = ltb→lt n 0 t in omega arith
 
 pub negative : (w : ℤ) → SFits w64 w → lt_z w (pos 0) ≡ true → Negative w
-negative (pos n) f e = absurd (not-below n (subst T (sym e) tt))
+negative (pos n) f e = absurd (not_below n (subst T (sym e) tt))
 negative (negsuc n) f e = record { less = n; is = refl; small = f.sfits }
 
-module _ (n : ℕ) (h : n < signedLimit) where
+module _ (n : ℕ) (h : n < signed_limit) where
   fits : SFits w64 (pos n)
-  fits = sfits-below (pos n) (le_refl n) h
+  fits = sfits_below (pos n) (le_refl n) h
 
   fits_neg : SFits w64 (neg_ℤ (pos n))
-  fits_neg = sfits-below (neg_ℤ (pos n)) (subst (λ (k : ℕ). k ≤ n) (sym (magnitude-neg (pos n))) (le_refl n)) h
+  fits_neg = sfits_below (neg_ℤ (pos n)) (subst (λ (k : ℕ). k ≤ n) (sym (magnitude_neg (pos n))) (le_refl n)) h
 
   next : (k : ℕ) → negsuc k +ℤ pos 1 ≡ neg_ℤ (pos k)
   next zero = +ℤ_one (negsuc 0)
@@ -62,10 +62,10 @@ pub not_negative : (w : ℤ) → SFits w64 w → lt_z w (pos 0) ≡ false → T 
 not_negative (pos n) f e = let h = f.sfits in (tt, record { fits = omega arith })
 not_negative (negsuc n) f e = absurd (true≢false e)
 
-pub signed_below : (w : ℤ) → lt_z w (pos 0) ≡ true → signedDecimal w ≡ 45 ∷ decimal (nat_abs w)
-signed_below (pos n) e = absurd (not-below n (subst T (sym e) tt))
+pub signed_below : (w : ℤ) → lt_z w (pos 0) ≡ true → signed_decimal w ≡ 45 ∷ decimal (nat_abs w)
+signed_below (pos n) e = absurd (not_below n (subst T (sym e) tt))
 signed_below (negsuc n) e = refl
 
-pub signed_above : (w : ℤ) → lt_z w (pos 0) ≡ false → signedDecimal w ≡ decimal (nat_abs w)
+pub signed_above : (w : ℤ) → lt_z w (pos 0) ≡ false → signed_decimal w ≡ decimal (nat_abs w)
 signed_above (pos n) e = refl
 signed_above (negsuc n) e = absurd (true≢false e)

@@ -1,7 +1,7 @@
 // Numbers in decimal, laid over lent space from a place on; each function returns the place behind its text. An inner crate: its callers see
 // that there is room. Every text is the one that `Decimal` of the crate `slip_format` defines.
 ghost use Rattle.std.specs.Prelude.{◌≡◌, ◌+◌, ◌≤◌, ◌<◌, length, nat_abs};
-ghost use Rattle.slip_format.specs.Decimal.{decimal, signedDecimal};
+ghost use Rattle.slip_format.specs.Decimal.{decimal, signed_decimal};
 ghost use Rattle.bytes_output.specs.Behind.{Laid};
 
 // The digit of a number below ten.
@@ -36,8 +36,8 @@ pub fn magnitude(w: i64) -> u64
 
 // A number in decimal, with a minus before one below zero.
 pub fn signed(out: &mut [u8], at: usize, w: i64) -> usize
-    requires { at + length (signedDecimal w) ≤ length out.old }
-    ensures { Laid at (signedDecimal w) out.old out.new result }
+    requires { at + length (signed_decimal w) ≤ length out.old }
+    ensures { Laid at (signed_decimal w) out.old out.new result }
 {
     let x = magnitude(w);
     let negative = w < 0;

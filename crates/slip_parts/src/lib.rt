@@ -2,10 +2,10 @@
 // the place behind its text. An inner crate: its callers see that there is room. Every text is the one that `Slip` of the crate
 // `slip_format` defines.
 ghost use Rattle.std.specs.Prelude.{◌+◌, ◌*◌, ◌/◌, ◌≤◌, length};
-ghost use Rattle.definitions.specs.Limits.{recordWords};
-ghost use Rattle.slip_format.specs.Slip.{slipLimits, elementLines, inspectedSlip};
+ghost use Rattle.definitions.specs.Limits.{record_words};
+ghost use Rattle.slip_format.specs.Slip.{slip_limits, element_lines, inspected_slip};
 ghost use Rattle.lot_format.specs.Runs.{groups_of};
-ghost use Rattle.inspection_counts.specs.Meaning.{countsHeld};
+ghost use Rattle.inspection_counts.specs.Meaning.{counts_held};
 ghost use Rattle.bytes_output.specs.Behind.{Laid};
 
 use inspection_counts::Counts;
@@ -20,9 +20,9 @@ fn element_lines<'a>(
     offsets: &[u32],
     report: &[i64],
 ) -> usize
-    requires record_words_len_bound { length report.now / recordWords ≤ slipLimits.elements }
-    requires report_in_bounds { at + length (elementLines label.now (groups_of names.now lengths.now offsets.now) recordWords 0 (length report.now / recordWords) report.now) ≤ length out.old }
-    ensures { Laid at (elementLines label.now (groups_of names.now lengths.now offsets.now) recordWords 0 (length report.now / recordWords) report.now) out.old out.new result }
+    requires record_words_len_bound { length report.now / record_words ≤ slip_limits.elements }
+    requires report_in_bounds { at + length (element_lines label.now (groups_of names.now lengths.now offsets.now) record_words 0 (length report.now / record_words) report.now) ≤ length out.old }
+    ensures { Laid at (element_lines label.now (groups_of names.now lengths.now offsets.now) record_words 0 (length report.now / record_words) report.now) out.old out.new result }
 {
     let n = report.len() / limits::RECORD_WORDS;
     let mut next = at;
@@ -52,9 +52,9 @@ pub fn inspected_slip<'a>(
     report: &[i64],
     counts: Counts,
 ) -> usize
-    requires record_words_len_bound { length report.now / recordWords ≤ slipLimits.elements }
-    requires counts_in_bounds { at + length (inspectedSlip label.now (groups_of names.now lengths.now offsets.now) recordWords (length report.now / recordWords) report.now (countsHeld counts)) ≤ length out.old }
-    ensures { Laid at (inspectedSlip label.now (groups_of names.now lengths.now offsets.now) recordWords (length report.now / recordWords) report.now (countsHeld counts)) out.old out.new result }
+    requires record_words_len_bound { length report.now / record_words ≤ slip_limits.elements }
+    requires counts_in_bounds { at + length (inspected_slip label.now (groups_of names.now lengths.now offsets.now) record_words (length report.now / record_words) report.now (counts_held counts)) ≤ length out.old }
+    ensures { Laid at (inspected_slip label.now (groups_of names.now lengths.now offsets.now) record_words (length report.now / record_words) report.now (counts_held counts)) out.old out.new result }
 {
     let stamp = inspection_counts::stamp_of(counts);
     let behind_label = slip_lines::lot_line(out, at, label);

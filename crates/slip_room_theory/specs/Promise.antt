@@ -1,4 +1,4 @@
--- Document 02, No. 2: "The program never lacks room." The slip of any bytes has room in `slipBytes`.
+-- Document 02, No. 2: "The program never lacks room." The slip of any bytes has room in `slip_bytes`.
 use Rattle.std.specs.Prelude.{◌≡◌, Bool, List, ℕ, ◌*◌, ◌/◌, ◌^◌, ◌<◌, ◌≤◌}
 use Rattle.std.proofs.Math.Path.{refl}
 use Rattle.std.proofs.Math.Bool.{true, false}
@@ -7,76 +7,76 @@ use Rattle.std.proofs.Common.{arith, leb-true}
 use Rattle.std.proofs.Math.Dec.{leb}
 use Rattle.std.proofs.Math.ListN.{length}
 use Rattle.foundation.specs.Lists.{All, all_map}
-use Rattle.definitions.specs.Limits.{recordWords, base}
-use Rattle.definitions.specs.Mesh.{MeshRefusal, meshRefusalNumber, depthTooGreat, badCoordinates, badIndices, badSpace, refusal, countsOf, records, report, Inspection, meshAccepted, meshRefused, inspection}
-use Rattle.verdict_theory.specs.Elements.{mesh-total}
+use Rattle.definitions.specs.Limits.{record_words, base}
+use Rattle.definitions.specs.Mesh.{MeshRefusal, mesh_refusal_number, depth_too_great, bad_coordinates, bad_indices, bad_space, refusal, counts_of, records, report, Inspection, mesh_accepted, mesh_refused, inspection}
+use Rattle.verdict_theory.specs.Elements.{mesh_total}
 use Rattle.lot_format.specs.Numbers.{Byte}
-use Rattle.lot_format.specs.Format.{lotFile, Group, Lot}
-use Rattle.lot_format.specs.Reading.{Unreadable, unreadableNumber, tooLong, cutShort, unknownMark, wrongLength, outOfPlace, badByte, tooManyElements, noRoom, Reading, readable, unreadable, readLot}
+use Rattle.lot_format.specs.Format.{lot_file, Group, Lot}
+use Rattle.lot_format.specs.Reading.{Unreadable, unreadable_number, too_long, cut_short, unknown_mark, wrong_length, out_of_place, bad_byte, too_many_elements, no_room, Reading, readable, unreadable, read_lot}
 use Rattle.lot_format.specs.Lawful.{Lawful, LawfulName}
-use Rattle.lot_format.specs.Accepted.{accepted-lawful}
-use Rattle.slip_format.specs.Slip.{slipLimits, slipBytes, refusedLine, inspectedSlip, meshSlip, slipIf, lotSlip, slipOf}
-use Rattle.slip_format.specs.Room.{Short, Counted, refused-length, inspected-length}
-use Rattle.slip_room_theory.specs.Words.{report-held}
+use Rattle.lot_format.specs.Accepted.{accepted_lawful}
+use Rattle.slip_format.specs.Slip.{slip_limits, slip_bytes, refused_line, inspected_slip, mesh_slip, slip_if, lot_slip, slip_of}
+use Rattle.slip_format.specs.Room.{Short, Counted, refused_length, inspected_length}
+use Rattle.slip_room_theory.specs.Words.{report_held}
 
-mesh-number : (r : MeshRefusal) → meshRefusalNumber r < 2 ^ 32
-mesh-number depthTooGreat = omega arith
-mesh-number badCoordinates = omega arith
-mesh-number badIndices = omega arith
-mesh-number badSpace = omega arith
+mesh_number : (r : MeshRefusal) → mesh_refusal_number r < 2 ^ 32
+mesh_number depth_too_great = omega arith
+mesh_number bad_coordinates = omega arith
+mesh_number bad_indices = omega arith
+mesh_number bad_space = omega arith
 
-lot-number : (r : Unreadable) → unreadableNumber r < 2 ^ 32
-lot-number tooLong = omega arith
-lot-number cutShort = omega arith
-lot-number unknownMark = omega arith
-lot-number wrongLength = omega arith
-lot-number outOfPlace = omega arith
-lot-number badByte = omega arith
-lot-number tooManyElements = omega arith
-lot-number noRoom = omega arith
+lot_number : (r : Unreadable) → unreadable_number r < 2 ^ 32
+lot_number too_long = omega arith
+lot_number cut_short = omega arith
+lot_number unknown_mark = omega arith
+lot_number wrong_length = omega arith
+lot_number out_of_place = omega arith
+lot_number bad_byte = omega arith
+lot_number too_many_elements = omega arith
+lot_number no_room = omega arith
 
-refused-room : (n : ℕ) → n < 2 ^ 32 → length (refusedLine n) ≤ slipBytes
-refused-room n h = let l = refused-length n h in omega arith
+refused_room : (n : ℕ) → n < 2 ^ 32 → length (refused_line n) ≤ slip_bytes
+refused_room n h = let l = refused_length n h in omega arith
 
-module _ (lot : Lot) (lawful : Lawful lotFile lot) where
+module _ (lot : Lot) (lawful : Lawful lot_file lot) where
   abbrev number : ℕ
   number = length lot.elements / 8
 
-  few-counted : Counted (countsOf (records base lot.nodes lot.elements slipLimits.depth))
-  few-counted =
-      let total = mesh-total base lot.nodes lot.elements slipLimits.depth in
+  few_counted : Counted (counts_of (records base lot.nodes lot.elements slip_limits.depth))
+  few_counted =
+      let total = mesh_total base lot.nodes lot.elements slip_limits.depth in
       let few = lawful.elements.few in
       record { valid = omega arith; invalid = omega arith; undecided = omega arith; refused = omega arith }
 
-  abbrev slipBy : Inspection → List ℕ
-  slipBy x = elim x [ meshRefused r ↦ refusedLine (meshRefusalNumber r) | meshAccepted n ↦ inspectedSlip lot.label lot.groups recordWords number (report base lot.nodes lot.elements slipLimits.depth) n ]
+  abbrev slip_by : Inspection → List ℕ
+  slip_by x = elim x [ mesh_refused r ↦ refused_line (mesh_refusal_number r) | mesh_accepted n ↦ inspected_slip lot.label lot.groups record_words number (report base lot.nodes lot.elements slip_limits.depth) n ]
 
-  mesh-room : number ≤ slipLimits.elements → length (meshSlip base slipLimits.depth lot) ≤ slipBytes
-  unfolding meshSlip inspection
-  mesh-room few = go (refusal base (length lot.nodes) (length lot.elements) (recordWords * number) slipLimits.depth)
+  mesh_room : number ≤ slip_limits.elements → length (mesh_slip base slip_limits.depth lot) ≤ slip_bytes
+  unfolding mesh_slip inspection
+  mesh_room few = go (refusal base (length lot.nodes) (length lot.elements) (record_words * number) slip_limits.depth)
     where
-      go : (o : Option MeshRefusal) → length (slipBy (elim o [ some r ↦ meshRefused r | none ↦ meshAccepted (countsOf (records base lot.nodes lot.elements slipLimits.depth)) ])) ≤ slipBytes
-      go (some r) = refused-room (meshRefusalNumber r) (mesh-number r)
-      go none = inspected-length lot.label lot.groups number (report base lot.nodes lot.elements slipLimits.depth) (countsOf (records base lot.nodes lot.elements slipLimits.depth)) (record {
-        label-short = lawful.label.short;
-        names-short = all_map (λ (g : Group). LawfulName lotFile g.name) (λ g. Short g.name) (λ g h. h.short) lot.groups lawful.groups.names;
-        elements-few = few;
-        words-held = report-held lot.nodes lot.elements lawful.elements.unsigned32 slipLimits.depth (omega arith);
-        counts-held = few-counted;
+      go : (o : Option MeshRefusal) → length (slip_by (elim o [ some r ↦ mesh_refused r | none ↦ mesh_accepted (counts_of (records base lot.nodes lot.elements slip_limits.depth)) ])) ≤ slip_bytes
+      go (some r) = refused_room (mesh_refusal_number r) (mesh_number r)
+      go none = inspected_length lot.label lot.groups number (report base lot.nodes lot.elements slip_limits.depth) (counts_of (records base lot.nodes lot.elements slip_limits.depth)) (record {
+        label_short = lawful.label.short;
+        names_short = all_map (λ (g : Group). LawfulName lot_file g.name) (λ g. Short g.name) (λ g h. h.short) lot.groups lawful.groups.names;
+        elements_few = few;
+        words_held = report_held lot.nodes lot.elements lawful.elements.unsigned32 slip_limits.depth (omega arith);
+        counts_held_law = few_counted;
       })
 
-  lot-room : length (lotSlip base slipLimits lot) ≤ slipBytes
-  unfolding lotSlip
-  lot-room = go (leb number slipLimits.elements) refl
+  lot_room : length (lot_slip base slip_limits lot) ≤ slip_bytes
+  unfolding lot_slip
+  lot_room = go (leb number slip_limits.elements) refl
     where
-      go : (b : Bool) → leb number slipLimits.elements ≡ b → length (slipIf b (meshSlip base slipLimits.depth lot)) ≤ slipBytes
-      go false e = refused-room (unreadableNumber tooManyElements) (lot-number tooManyElements)
-      go true e = mesh-room (leb-true number slipLimits.elements e)
+      go : (b : Bool) → leb number slip_limits.elements ≡ b → length (slip_if b (mesh_slip base slip_limits.depth lot)) ≤ slip_bytes
+      go false e = refused_room (unreadable_number too_many_elements) (lot_number too_many_elements)
+      go true e = mesh_room (leb-true number slip_limits.elements e)
 
-pub slip-room : (file : List ℕ) → All Byte file → length (slipOf base lotFile slipLimits file) ≤ slipBytes
-unfolding slipOf
-slip-room file h = go (readLot lotFile file) refl
+pub slip_room : (file : List ℕ) → All Byte file → length (slip_of base lot_file slip_limits file) ≤ slip_bytes
+unfolding slip_of
+slip_room file h = go (read_lot lot_file file) refl
   where
-    go : (r : Reading) → readLot lotFile file ≡ r → length {A = ℕ} (elim r [ unreadable w ↦ refusedLine (unreadableNumber w) | readable lot ↦ lotSlip base slipLimits lot ]) ≤ slipBytes
-    go (unreadable w) e = refused-room (unreadableNumber w) (lot-number w)
-    go (readable lot) e = lot-room lot (accepted-lawful lotFile file lot h e)
+    go : (r : Reading) → read_lot lot_file file ≡ r → length {A = ℕ} (elim r [ unreadable w ↦ refused_line (unreadable_number w) | readable lot ↦ lot_slip base slip_limits lot ]) ≤ slip_bytes
+    go (unreadable w) e = refused_room (unreadable_number w) (lot_number w)
+    go (readable lot) e = lot_room lot (accepted_lawful lot_file file lot h e)

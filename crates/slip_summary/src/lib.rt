@@ -2,16 +2,16 @@
 // place behind its text. An inner crate: its callers see that there is room. Every text is the one that `Slip` of the crate
 // `slip_format` defines.
 ghost use Rattle.std.specs.Prelude.{◌≡◌, [], ◌∷◌, ◌+◌, ◌≤◌, length};
-ghost use Rattle.slip_format.specs.Slip.{line, wordStamp, stampWord, tallyLine};
-ghost use Rattle.inspection_counts.specs.Meaning.{countsHeld, stampHeld};
+ghost use Rattle.slip_format.specs.Slip.{line, word_stamp, stamp_word, tally_line};
+ghost use Rattle.inspection_counts.specs.Meaning.{counts_held, stamp_held};
 ghost use Rattle.bytes_output.specs.Behind.{Laid};
 
 use inspection_counts::{Counts, Stamp};
 
 // The line of the four counts.
 pub fn tally_line(out: &mut [u8], at: usize, n: Counts) -> usize
-    requires { at + length (tallyLine (countsHeld n)) ≤ length out.old }
-    ensures { Laid at (tallyLine (countsHeld n)) out.old out.new result }
+    requires { at + length (tally_line (counts_held n)) ≤ length out.old }
+    ensures { Laid at (tally_line (counts_held n)) out.old out.new result }
 {
     let behind_word = bytes_output::bytes(out, at, b"tally");
     let behind_valid = slip_lines::number(out, behind_word, n.valid as u64);
@@ -23,8 +23,8 @@ pub fn tally_line(out: &mut [u8], at: usize, n: Counts) -> usize
 
 // The word of a stamp, behind a space.
 fn stamp_word(out: &mut [u8], at: usize, stamp: Stamp) -> usize
-    requires { at + length (32 ∷ stampWord (stampHeld stamp)) ≤ length out.old }
-    ensures { Laid at (32 ∷ stampWord (stampHeld stamp)) out.old out.new result }
+    requires { at + length (32 ∷ stamp_word (stamp_held stamp)) ≤ length out.old }
+    ensures { Laid at (32 ∷ stamp_word (stamp_held stamp)) out.old out.new result }
 {
     match stamp {
         Stamp::Sound => slip_lines::word(out, at, b"sound"),
@@ -35,8 +35,8 @@ fn stamp_word(out: &mut [u8], at: usize, stamp: Stamp) -> usize
 
 // The line of a stamp.
 pub fn stamp_line(out: &mut [u8], at: usize, stamp: Stamp) -> usize
-    requires { at + length (line wordStamp (stampWord (stampHeld stamp) ∷ [])) ≤ length out.old }
-    ensures { Laid at (line wordStamp (stampWord (stampHeld stamp) ∷ [])) out.old out.new result }
+    requires { at + length (line word_stamp (stamp_word (stamp_held stamp) ∷ [])) ≤ length out.old }
+    ensures { Laid at (line word_stamp (stamp_word (stamp_held stamp) ∷ [])) out.old out.new result }
 {
     let behind_word = bytes_output::bytes(out, at, b"stamp");
     let behind_stamp = stamp_word(out, behind_word, stamp);

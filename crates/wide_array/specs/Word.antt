@@ -6,12 +6,12 @@ use Rattle.std.proofs.Common.{arith}
 abbrev pub largest : ℕ
 largest = 2 ^ 127 - 1
 
-abbrev pub cutLargest : ℕ
-cutLargest = 2 ^ 127 / 4 - 1
+abbrev pub cut_largest : ℕ
+cut_largest = 2 ^ 127 / 4 - 1
 
 -- a number that is at most a quarter of the largest can be cut
-pub can-be-cut : (n : ℕ) → 4 * n ≤ largest → n ≤ cutLargest
-can-be-cut n h = go largest cutLargest refl h
+pub can_be_cut : (n : ℕ) → 4 * n ≤ largest → n ≤ cut_largest
+can_be_cut n h = go largest cut_largest refl h
   where
     go : (top quarter : ℕ) → top ≡ 4 * quarter + 3 → 4 * n ≤ top → n ≤ quarter
     go top quarter e h = omega (arith, e, h)

@@ -1,16 +1,16 @@
 // Both bounds of eight points by recursion, with numbers of two words. An inner crate, for the inspector's own crates: its callers see to it that the
 // numbers stay small enough at every level that is asked for (`Small`).
 ghost use Rattle.std.specs.Prelude.{◌≡◌, List, take, ℤ};
-ghost use Rattle.foundation.specs.Least.{leastFrom, leastOf};
+ghost use Rattle.foundation.specs.Least.{least_from, least_of};
 ghost use Rattle.definitions.specs.Coefficients.{coefficients};
 ghost use Rattle.definitions.specs.Subdivision.{Cell};
 ghost use Rattle.verdict_theory.specs.Extremes.{extremes as extremesBelow};
 ghost use Rattle.search_theory.specs.Meaning.{Small};
-ghost use Rattle.search_theory.specs.Bounds.{withControl, boundsAt};
+ghost use Rattle.search_theory.specs.Bounds.{with_control, bounds_at};
 ghost use Rattle.wide_number.specs.Meaning.{value_of};
 ghost use Rattle.wide_array.specs.Values.{values};
 ghost use Rattle.wide_array.specs.Word.{largest};
-ghost use Rattle.wide_bounds.specs.Meaning.{extremesOf};
+ghost use Rattle.wide_bounds.specs.Meaning.{extremes_of};
 
 use limits::{GREATEST_HIGH, GREATEST_LOW};
 use wide_number::Wide;
@@ -24,7 +24,7 @@ pub struct Extremes {
 
 // The least of v and the corners, the first eight coefficients.
 fn with_corners(g: &[u64; 54], v: Wide) -> Wide
-    ensures { value_of result ≡ leastFrom (value_of v) (take 8 (values g.now)) }
+    ensures { value_of result ≡ least_from (value_of v) (take 8 (values g.now)) }
 {
     let mut r = v;
     for n in 0..8 {
@@ -36,8 +36,8 @@ fn with_corners(g: &[u64; 54], v: Wide) -> Wide
 
 // One cell more, with its least coefficient.
 fn with_cell(g: &[u64; 54], least: Wide, r: Extremes) -> Extremes
-    requires { value_of least ≡ leastOf (values g.now) }
-    ensures { extremesOf result ≡ withControl (values g.now) (extremesOf r) }
+    requires { value_of least ≡ least_of (values g.now) }
+    ensures { extremes_of result ≡ with_control (values g.now) (extremes_of r) }
 {
     let low = r.low;
     let high = r.high;
@@ -49,8 +49,8 @@ fn with_cell(g: &[u64; 54], least: Wide, r: Extremes) -> Extremes
 
 // The cells `left` levels below this one, of which the least coefficient is told, after those seen before.
 fn survey(g: &[u64; 54], least: Wide, left: u32, r: Extremes) -> Extremes
-    requires { Small largest (values g.now) left × (value_of least ≡ leastOf (values g.now)) }
-    ensures { (s : Cell) → s.control ≡ values g.now → extremesOf result ≡ extremesBelow left s (extremesOf r) }
+    requires { Small largest (values g.now) left × (value_of least ≡ least_of (values g.now)) }
+    ensures { (s : Cell) → s.control ≡ values g.now → extremes_of result ≡ extremesBelow left s (extremes_of r) }
 {
     if left == 0 {
         return with_cell(g, least, r);
@@ -71,7 +71,7 @@ fn survey(g: &[u64; 54], least: Wide, left: u32, r: Extremes) -> Extremes
 // Both bounds of the eight points with these coefficients, from the greatest number, which no coefficient passes.
 pub fn bounds(g: &[u64; 54], depth: u32) -> Extremes
     requires { Small largest (values g.now) depth }
-    ensures { (xs : List ℤ) → values g.now ≡ coefficients xs → extremesOf result ≡ boundsAt xs depth }
+    ensures { (xs : List ℤ) → values g.now ≡ coefficients xs → extremes_of result ≡ bounds_at xs depth }
 {
     let whole = wide_least::least_of(g);
     survey(

@@ -4,9 +4,9 @@
 ghost use Rattle.std.specs.Prelude.{◌≡◌, false, ◌&&◌, ◌<◌, eqb, length};
 ghost use Rattle.definitions.specs.Jacobian.{side};
 ghost use Rattle.definitions.specs.Subdivision.{halve};
-ghost use Rattle.definitions.specs.Eighths.{eighthOf};
+ghost use Rattle.definitions.specs.Eighths.{eighth_of};
 ghost use Rattle.expansion_theory.specs.Control.{Cuttable};
-ghost use Rattle.verdict_theory.specs.Clear.{half_of, quarterOf};
+ghost use Rattle.verdict_theory.specs.Clear.{half_of, quarter_of};
 ghost use Rattle.search_theory.specs.Meaning.{lowest, Small};
 ghost use Rattle.search_theory.specs.Children.{Ready, Run};
 ghost use Rattle.wide_array.specs.Values.{values};
@@ -44,7 +44,7 @@ fn clear_half_at(d: u32, first: bool, c: &[u64; 54], k: u32, out: &mut [u64; 54]
 pub fn quarter_at(g: &[u64; 54], k: u32, half: &mut [u64; 54], quarter: &mut [u64; 54])
     requires small { Small largest (values g.now) 1 × Ready (values g.now) k (values half.old) (values quarter.old) }
     requires half_len { (length half.old ≡ 54) × (length quarter.old ≡ 54) }
-    ensures half_after { (values half.new ≡ half_of (values g.now) k) × (values quarter.new ≡ quarterOf (values g.now) k) }
+    ensures half_after { (values half.new ≡ half_of (values g.now) k) × (values quarter.new ≡ quarter_of (values g.now) k) }
     ensures half_len_2 { (length half.new ≡ 54) × (length quarter.new ≡ 54) }
 {
     half_at(2, k % 4 == 0, g, k, half);
@@ -55,7 +55,7 @@ pub fn quarter_at(g: &[u64; 54], k: u32, half: &mut [u64; 54], quarter: &mut [u6
 // its own, which the compiler leaves out where a caller does not ask for it.
 pub fn eighth(k: u32, quarter: &[u64; 54], out: &mut [u64; 54]) -> Least
     requires { Cuttable largest (values quarter.now) × (length out.old ≡ 54) }
-    ensures result_after { told (values out.new) result ≡ eighthOf (halve 0 (side 0 k) (values quarter.now)) }
+    ensures result_after { told (values out.new) result ≡ eighth_of (halve 0 (side 0 k) (values quarter.now)) }
     ensures out_len { length out.new ≡ 54 }
 {
     wide_subdivision::halve(0, cell_corners::side(0, k), quarter, out);

@@ -9,7 +9,7 @@ ghost use Rattle.definitions.specs.Coefficients.{coefficients};
 ghost use Rattle.wide_number.specs.Meaning.{value_of, modulo};
 ghost use Rattle.wide_array.specs.Values.{values};
 ghost use Rattle.element_vectors.specs.Range.{InRange};
-ghost use Rattle.wide_coefficients.specs.Joined.{joinAt};
+ghost use Rattle.wide_coefficients.specs.Joined.{join_at};
 
 use wide_number::Wide;
 
@@ -36,7 +36,7 @@ fn join(high: i64, low: i64) -> Wide
 // The 27 numbers whose digits are high and low.
 fn put_joined(high: &[i64; 27], low: &[i64; 27], out: &mut [u64; 54])
     requires { length out.old ≡ 54 }
-    ensures fact_1 { values out.new ≡ tabulate (joinAt high.now low.now) 0 27 }
+    ensures fact_1 { values out.new ≡ tabulate (join_at high.now low.now) 0 27 }
     ensures fact_2 { length out.new ≡ 54 }
 {
     let mut k = 0;

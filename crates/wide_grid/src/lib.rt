@@ -3,17 +3,17 @@ ghost use Rattle.std.specs.Prelude.{◌≡◌, [], ◌∷◌, ◌<◌};
 ghost use Rattle.foundation.specs.Words.{args, Within};
 ghost use Rattle.expansion_theory.specs.Rows.{line_at};
 ghost use Rattle.search_theory.specs.Meaning.{Small};
-ghost use Rattle.search_theory.specs.Grid.{middle as middle_of, middles, lowInRow, facesLow, betweenLow, gridLow};
+ghost use Rattle.search_theory.specs.Grid.{middle as middle_of, middles, low_in_row, faces_low, between_low, grid_low};
 ghost use Rattle.wide_number.specs.Meaning.{value_of};
 ghost use Rattle.wide_array.specs.Values.{values};
-ghost use Rattle.wide_array.specs.Word.{largest, cutLargest};
+ghost use Rattle.wide_array.specs.Word.{largest, cut_largest};
 
 use wide_number::Wide;
 
 // Whether one of the three points of the row p, q, r is not above 0: its ends, and its middle, which is taken four times.
 fn low_in_row(p: Wide, q: Wide, r: Wide) -> bool
-    requires { Within cutLargest (value_of p ∷ value_of q ∷ value_of r ∷ []) }
-    ensures { result ≡ lowInRow (args (value_of p ∷ value_of q ∷ value_of r ∷ [])) }
+    requires { Within cut_largest (value_of p ∷ value_of q ∷ value_of r ∷ []) }
+    ensures { result ≡ low_in_row (args (value_of p ∷ value_of q ∷ value_of r ∷ [])) }
 {
     let m = wide_rows::end(p, q, r);
     p.at_most_zero() | (r.at_most_zero() | m.at_most_zero())
@@ -22,7 +22,7 @@ fn low_in_row(p: Wide, q: Wide, r: Wide) -> bool
 // The row of the coefficients x, y, z.
 fn low_at(g: &[u64; 54], x: usize, y: usize, z: usize) -> bool
     requires { Small largest (values g.now) 1 × (x < 27) × (y < 27) × (z < 27) }
-    ensures { result ≡ lowInRow (args (line_at (values g.now) x y z)) }
+    ensures { result ≡ low_in_row (args (line_at (values g.now) x y z)) }
 {
     let p = wide_array::at(g, x);
     let q = wide_array::at(g, y);
@@ -55,7 +55,7 @@ fn low_across(
     z: usize,
 ) -> bool
     requires { Small largest (values g.now) 1 × (a < 27) × (b < 27) × (c < 27) × (d < 27) × (e < 27) × (f < 27) × (x < 27) × (y < 27) × (z < 27) }
-    ensures { result ≡ lowInRow (middles (line_at (values g.now) a b c) (line_at (values g.now) d e f) (line_at (values g.now) x y z)) }
+    ensures { result ≡ low_in_row (middles (line_at (values g.now) a b c) (line_at (values g.now) d e f) (line_at (values g.now) x y z)) }
 {
     low_in_row(
         middle_at(g, a, b, c),
@@ -90,7 +90,7 @@ fn middle_across(
 // The start of the cell in ξ: a face, of three rows in ζ; and its end.
 fn low_in_faces(g: &[u64; 54]) -> bool
     requires { Small largest (values g.now) 1 }
-    ensures { result ≡ facesLow (values g.now) }
+    ensures { result ≡ faces_low (values g.now) }
 {
     let start = low_at(g, 0, 12, 4)
         | (low_at(g, 3, 15, 7) | low_across(g, 0, 11, 3, 12, 24, 15, 4, 19, 7));
@@ -102,7 +102,7 @@ fn low_in_faces(g: &[u64; 54]) -> bool
 // The plane between them: the middles of the nine rows in ξ.
 fn low_between(g: &[u64; 54]) -> bool
     requires { Small largest (values g.now) 1 }
-    ensures { result ≡ betweenLow (values g.now) }
+    ensures { result ≡ between_low (values g.now) }
 {
     let u = middle_across(g, 0, 8, 1, 11, 20, 9, 3, 10, 2);
     let v = middle_across(g, 12, 21, 13, 24, 26, 22, 15, 23, 14);
@@ -114,7 +114,7 @@ fn low_between(g: &[u64; 54]) -> bool
 // Whether J is not above 0 at one of the 27 points.
 pub fn low(g: &[u64; 54]) -> bool
     requires { Small largest (values g.now) 1 }
-    ensures { result ≡ gridLow (values g.now) }
+    ensures { result ≡ grid_low (values g.now) }
 {
     low_in_faces(g) | low_between(g)
 }

@@ -1,8 +1,8 @@
 // The least of a cell's 27 coefficients and the lowest number that holds it, with numbers of two words. An inner crate, for `wide_children`
 // and `wide_bounds`.
 ghost use Rattle.std.specs.Prelude.{◌≡◌, ◌<◌};
-ghost use Rattle.foundation.specs.Least.{lesser as lesserOf, leastFrom, leastOf};
-ghost use Rattle.definitions.specs.Eighths.{leastNumber, eighthOf};
+ghost use Rattle.foundation.specs.Least.{lesser as lesserOf, least_from, least_of};
+ghost use Rattle.definitions.specs.Eighths.{least_number, eighth_of};
 ghost use Rattle.expansion_theory.specs.Rows.{line_at};
 ghost use Rattle.wide_number.specs.Meaning.{value_of};
 ghost use Rattle.wide_array.specs.Values.{values};
@@ -29,7 +29,7 @@ pub fn lesser(x: Wide, y: Wide) -> Wide
 // The least of v and the coefficients x, y and z. Each is compared with the least so far, which is seldom the greater one: numbers of two words are compared by branches.
 fn with_row(g: &[u64; 54], x: usize, y: usize, z: usize, v: Wide) -> Wide
     requires { (x < 27) × (y < 27) × (z < 27) }
-    ensures { value_of result ≡ leastFrom (value_of v) (line_at (values g.now) x y z) }
+    ensures { value_of result ≡ least_from (value_of v) (line_at (values g.now) x y z) }
 {
     let p = wide_array::at(g, x);
     let q = wide_array::at(g, y);
@@ -41,7 +41,7 @@ fn with_row(g: &[u64; 54], x: usize, y: usize, z: usize, v: Wide) -> Wide
 
 // The least of the 27, row by row in ξ, as with numbers of one word.
 pub fn value(g: &[u64; 54]) -> Wide
-    ensures { value_of result ≡ leastOf (values g.now) }
+    ensures { value_of result ≡ least_of (values g.now) }
 {
     let first = wide_array::at(g, 0);
     let a = with_row(g, 0, 8, 1, first);
@@ -57,8 +57,8 @@ pub fn value(g: &[u64; 54]) -> Wide
 
 // The lowest number of the 27 that holds the least, v.
 pub fn number(g: &[u64; 54], v: Wide) -> usize
-    requires { value_of v ≡ leastOf (values g.now) }
-    ensures { result ≡ leastNumber (values g.now) }
+    requires { value_of v ≡ least_of (values g.now) }
+    ensures { result ≡ least_number (values g.now) }
 {
     for k in 0..27 {
         let x = wide_array::at(g, k);
@@ -71,7 +71,7 @@ pub fn number(g: &[u64; 54], v: Wide) -> usize
 
 // Both, of these 27.
 pub fn least_of(g: &[u64; 54]) -> Least
-    ensures { told (values g.now) result ≡ eighthOf (values g.now) }
+    ensures { told (values g.now) result ≡ eighth_of (values g.now) }
 {
     let v = value(g);
     Least {

@@ -1,7 +1,7 @@
 -- What the numbers, orders and answers of this crate stand for.
 use Rattle.std.specs.Prelude.{Bool, true, false, ℤ, int_lt}
 use Rattle.std.specs.Int.{w128}
-use Rattle.definitions.specs.TwoWords.{value, wrapped, inOneWord}
+use Rattle.definitions.specs.TwoWords.{value, wrapped, in_one_word}
 use Rattle.wide_number.specs.declared.Wide.{Wide}
 use Rattle.wide_number.specs.declared.Order.{Order}
 use Rattle.wide_number.specs.declared.Order.TheVariants.{Less, Equal, Greater}
@@ -23,5 +23,5 @@ abbrev pub chosen : Bool → ℤ → Single
 chosen true z = Number z
 chosen false z = TooLong
 
-unfoldable pub singleOf : ℤ → Single
-singleOf z = chosen (inOneWord z) z
+unfoldable pub single_of : ℤ → Single
+single_of z = chosen (in_one_word z) z

@@ -7,7 +7,7 @@ ghost use Rattle.std.specs.Int.{w64};
 ghost use Rattle.std.proofs.Common.{to_z};
 ghost use Rattle.wrapping_theory.specs.Words.{together};
 ghost use Rattle.wrapping_theory.specs.Order.{lifted as withSignTurned};
-ghost use Rattle.wide_number.specs.Meaning.{value_of, modulo, order_of, singleOf};
+ghost use Rattle.wide_number.specs.Meaning.{value_of, modulo, order_of, single_of};
 
 // The bit of a word that tells its sign.
 const SIGN: u64 = 9223372036854775808;
@@ -89,7 +89,7 @@ impl Wide {
 
     // The number in one word, or that it is too long for one.
     pub fn to_i64(self) -> Single
-        ensures { result ≡ singleOf (value_of self) }
+        ensures { result ≡ single_of (value_of self) }
     {
         if self.high == 0 {
             if self.low < SIGN {

@@ -2,34 +2,34 @@
 ghost use Rattle.std.specs.Prelude.{◌≡◌, [], ◌∷◌, ◌+◌, ◌<◌, length};
 ghost use Rattle.foundation.specs.Polynomial.{integers};
 ghost use Rattle.foundation.specs.Words.{args, Within};
-ghost use Rattle.definitions.specs.Subdivision.{cutRow};
+ghost use Rattle.definitions.specs.Subdivision.{cut_row};
 ghost use Rattle.expansion_theory.specs.Rows.{Row};
 ghost use Rattle.wide_number.specs.Meaning.{value_of};
-ghost use Rattle.wide_array.specs.Values.{putNumber};
-ghost use Rattle.wide_array.specs.Word.{cutLargest};
+ghost use Rattle.wide_array.specs.Values.{put_number};
+ghost use Rattle.wide_array.specs.Word.{cut_largest};
 ghost use Rattle.wide_array.specs.Rows.{RowsHeld};
 
 use wide_number::Wide;
 
 // The lower half of the row p, q, r, four times larger: its three entries. The upper half is that of r, q, p, from its end to its start.
 fn start(p: Wide, q: Wide, r: Wide) -> Wide
-    requires { Within cutLargest (value_of p ∷ value_of q ∷ value_of r ∷ []) }
-    ensures { value_of result ≡ cutRow integers 0 (args (value_of p ∷ value_of q ∷ value_of r ∷ [])) 0 }
+    requires { Within cut_largest (value_of p ∷ value_of q ∷ value_of r ∷ []) }
+    ensures { value_of result ≡ cut_row integers 0 (args (value_of p ∷ value_of q ∷ value_of r ∷ [])) 0 }
 {
     p.four_times()
 }
 
 fn middle(p: Wide, q: Wide, r: Wide) -> Wide
-    requires { Within cutLargest (value_of p ∷ value_of q ∷ value_of r ∷ []) }
-    ensures { value_of result ≡ cutRow integers 0 (args (value_of p ∷ value_of q ∷ value_of r ∷ [])) 1 }
+    requires { Within cut_largest (value_of p ∷ value_of q ∷ value_of r ∷ []) }
+    ensures { value_of result ≡ cut_row integers 0 (args (value_of p ∷ value_of q ∷ value_of r ∷ [])) 1 }
 {
     let s = p.add(q);
     s.twice()
 }
 
 pub fn end(p: Wide, q: Wide, r: Wide) -> Wide
-    requires { Within cutLargest (value_of p ∷ value_of q ∷ value_of r ∷ []) }
-    ensures { value_of result ≡ cutRow integers 0 (args (value_of p ∷ value_of q ∷ value_of r ∷ [])) 2 }
+    requires { Within cut_largest (value_of p ∷ value_of q ∷ value_of r ∷ []) }
+    ensures { value_of result ≡ cut_row integers 0 (args (value_of p ∷ value_of q ∷ value_of r ∷ [])) 2 }
 {
     let t = q.twice();
     let s = p.add(t);
@@ -39,7 +39,7 @@ pub fn end(p: Wide, q: Wide, r: Wide) -> Wide
 // u, v, w into out at x, y, z.
 fn put_row(u: Wide, v: Wide, w: Wide, x: usize, y: usize, z: usize, out: &mut [u64; 54])
     requires { (x < 27) × (y < 27) × (z < 27) × (length out.old ≡ 54) }
-    ensures { out.new ≡ putNumber w.low w.high z (putNumber v.low v.high y (putNumber u.low u.high x out.old)) }
+    ensures { out.new ≡ put_number w.low w.high z (put_number v.low v.high y (put_number u.low u.high x out.old)) }
 {
     wide_array::put(u, x, out);
     wide_array::put(v, y, out);

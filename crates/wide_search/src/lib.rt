@@ -3,14 +3,14 @@
 ghost use Rattle.std.specs.Prelude.{◌≡◌, false, List, ◌-◌, ◌^◌, ◌≤◌, ℤ};
 ghost use Rattle.definitions.specs.Limits.{base};
 ghost use Rattle.definitions.specs.Coefficients.{coefficients};
-ghost use Rattle.definitions.specs.Record.{recordOf};
-ghost use Rattle.verdict_theory.specs.Search.{Pass, ended as hasEnded, visit as visited};
+ghost use Rattle.definitions.specs.Record.{record_of};
+ghost use Rattle.verdict_theory.specs.Search.{Pass, ended as has_ended, visit as visited};
 ghost use Rattle.search_theory.specs.Meaning.{cell_of, lowest, Small, Room, Held};
 ghost use Rattle.search_theory.specs.Visit.{RestTold};
 ghost use Rattle.search_theory.specs.Levels.{whole_of, fresh};
 ghost use Rattle.wide_array.specs.Values.{values};
 ghost use Rattle.wide_array.specs.Word.{largest};
-ghost use Rattle.search_pass.specs.Meaning.{passWords};
+ghost use Rattle.search_pass.specs.Meaning.{pass_words};
 
 use limits::RECORD_WORDS;
 use search_pass::PASS_WORDS;
@@ -19,8 +19,8 @@ use wide_number::Wide;
 // Whether the children of this cell from k on need not be made: after a low corner, and, where they are of the last level, after a low coefficient,
 // if J is above 0 at all grid points of their level. Of the last level the rest are then opened here.
 fn rest_known(g: &[u64; 54], k: u32, left: u32, pass: &mut [i64; PASS_WORDS]) -> bool
-    requires { Small largest (values g.now) 1 × (k ≤ 8) × Held passWords (8 - k) pass.old }
-    ensures { (p : Pass) → pass.old ≡ passWords p → RestTold passWords p left (values g.now) (8 - k) result pass.new }
+    requires { Small largest (values g.now) 1 × (k ≤ 8) × Held pass_words (8 - k) pass.old }
+    ensures { (p : Pass) → pass.old ≡ pass_words p → RestTold pass_words p left (values g.now) (8 - k) result pass.new }
 {
     if search_pass::ended(pass) {
         return true;
@@ -39,8 +39,8 @@ fn rest_known(g: &[u64; 54], k: u32, left: u32, pass: &mut [i64; PASS_WORDS]) ->
 // The due cells `left` levels below this one, which has a low coefficient, in path order, after what was found before: of the last level it is opened
 // itself, else it is cut into its eight children, and those that are known to have no low coefficient are passed over.
 fn visit(g: &[u64; 54], a: u32, b: u32, c: u32, left: u32, pass: &mut [i64; PASS_WORDS])
-    requires { Room largest (values g.now) a b c left × Held passWords (8 ^ left) pass.old × (lowest (values g.now) ≡ 0 → ⊥) }
-    ensures { (p : Pass) → pass.old ≡ passWords p → hasEnded p.found ≡ false → pass.new ≡ passWords (visited left (cell_of a b c (values g.now)) p) }
+    requires { Room largest (values g.now) a b c left × Held pass_words (8 ^ left) pass.old × (lowest (values g.now) ≡ 0 → ⊥) }
+    ensures { (p : Pass) → pass.old ≡ pass_words p → has_ended p.found ≡ false → pass.new ≡ pass_words (visited left (cell_of a b c (values g.now)) p) }
 {
     if left == 0 {
         let n = wide_lowest::lowest(g);
@@ -75,8 +75,8 @@ fn visit(g: &[u64; 54], a: u32, b: u32, c: u32, left: u32, pass: &mut [i64; PASS
 
 // The pass of a level over the whole element, which has a low coefficient, after a pass of which the count of cells stays.
 fn pass_at(g: &[u64; 54], level: u32, pass: &mut [i64; PASS_WORDS])
-    requires { Small largest (values g.now) level × (level ≤ base.depth) × Held passWords (8 ^ level) pass.old × (lowest (values g.now) ≡ 0 → ⊥) }
-    ensures { (p : Pass) → pass.old ≡ passWords p → pass.new ≡ passWords (visited level (whole_of (values g.now)) (fresh p.count)) }
+    requires { Small largest (values g.now) level × (level ≤ base.depth) × Held pass_words (8 ^ level) pass.old × (lowest (values g.now) ≡ 0 → ⊥) }
+    ensures { (p : Pass) → pass.old ≡ pass_words p → pass.new ≡ pass_words (visited level (whole_of (values g.now)) (fresh p.count)) }
 {
     search_pass::note(0, 0, 0, 0, 0, Wide::from_i64(0), pass);
     visit(g, 0, 0, 0, level, pass);
@@ -85,7 +85,7 @@ fn pass_at(g: &[u64; 54], level: u32, pass: &mut [i64; PASS_WORDS])
 // The record of the eight points with these coefficients: where one is low, a pass of level 0, 1, .. while only low coefficients are found.
 pub fn record(g: &[u64; 54], depth: u32) -> [i64; RECORD_WORDS]
     requires { Small largest (values g.now) depth × (depth ≤ base.depth) }
-    ensures { (xs : List ℤ) → values g.now ≡ coefficients xs → result ≡ recordOf xs depth }
+    ensures { (xs : List ℤ) → values g.now ≡ coefficients xs → result ≡ record_of xs depth }
 {
     let mut m: u32 = 0;
     let mut r = [0i64; PASS_WORDS];

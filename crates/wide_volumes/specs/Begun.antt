@@ -1,21 +1,21 @@
 -- The digits of the volumes, laid down one after the other.
 use Rattle.std.specs.Prelude.{◌≡◌, refl, List, ℕ, ◌+◌, ◌<◌, set, length, ℤ}
 use Rattle.std.proofs.Common.{sym, ◌∙◌, subst}
-use Rattle.foundation.specs.Filled.{Filled, none_filled, one-filled, all-filled}
+use Rattle.foundation.specs.Filled.{Filled, none_filled, one_filled, all_filled}
 use Rattle.foundation.specs.Lists.{tabulate}
 use Rattle.foundation.specs.Words.{args}
 use Rattle.definitions.specs.Limits.{base}
-use Rattle.definitions.specs.Jacobian.{nodesOf}
+use Rattle.definitions.specs.Jacobian.{nodes_of}
 use Rattle.element_vectors.specs.Range.{InRange}
 use Rattle.wide_volumes.specs.Digits.{upper, lower, digits}
 
 -- points in range, and twice twenty words whose first k are the digits of the first k volumes
 pub record Begun (xs : List ℤ) (k : ℕ) (high low : List ℤ) : Type 0 where
   pub range : InRange base.range xs
-  pub uppers : Filled (args (digits upper (nodesOf xs))) 20 k high
-  pub lowers : Filled (args (digits lower (nodesOf xs))) 20 k low
+  pub uppers : Filled (args (digits upper (nodes_of xs))) 20 k high
+  pub lowers : Filled (args (digits lower (nodes_of xs))) 20 k low
 
-whole : (f : ℤ → ℤ) (xs : List ℤ) → tabulate (args (digits f (nodesOf xs))) 0 20 ≡ digits f (nodesOf xs)
+whole : (f : ℤ → ℤ) (xs : List ℤ) → tabulate (args (digits f (nodes_of xs))) 0 20 ≡ digits f (nodes_of xs)
 unfolding digits
 whole f xs = refl
 
@@ -25,16 +25,16 @@ module _ {xs high low : List ℤ} where
 
   -- the digits of volume k are put in their places
   module _ {k : ℕ} (b : Begun xs k high low) (s : k < 20) {high' low' : List ℤ} where
-    pub next : high' ≡ set high k (args (digits upper (nodesOf xs)) k) → low' ≡ set low k (args (digits lower (nodesOf xs)) k) → Begun xs (k + 1) high' low'
+    pub next : high' ≡ set high k (args (digits upper (nodes_of xs)) k) → low' ≡ set low k (args (digits lower (nodes_of xs)) k) → Begun xs (k + 1) high' low'
     next p q = record {
       range = b.range;
-      uppers = subst (Filled (args (digits upper (nodesOf xs))) 20 (k + 1)) (sym p) (one-filled _ b.uppers s refl);
-      lowers = subst (Filled (args (digits lower (nodesOf xs))) 20 (k + 1)) (sym q) (one-filled _ b.lowers s refl);
+      uppers = subst (Filled (args (digits upper (nodes_of xs))) 20 (k + 1)) (sym p) (one_filled _ b.uppers s refl);
+      lowers = subst (Filled (args (digits lower (nodes_of xs))) 20 (k + 1)) (sym q) (one_filled _ b.lowers s refl);
     }
 
   -- all twenty
-  pub all-uppers : Begun xs 20 high low → high ≡ digits upper (nodesOf xs)
-  all-uppers b = all-filled _ b.uppers ∙ whole upper xs
+  pub all_uppers : Begun xs 20 high low → high ≡ digits upper (nodes_of xs)
+  all_uppers b = all_filled _ b.uppers ∙ whole upper xs
 
-  pub all-lowers : Begun xs 20 high low → low ≡ digits lower (nodesOf xs)
-  all-lowers b = all-filled _ b.lowers ∙ whole lower xs
+  pub all_lowers : Begun xs 20 high low → low ≡ digits lower (nodes_of xs)
+  all_lowers b = all_filled _ b.lowers ∙ whole lower xs

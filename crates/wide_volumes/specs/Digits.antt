@@ -7,12 +7,12 @@ use Rattle.std.proofs.Math.ListN.{get_or-append}
 use Rattle.std.proofs.Math.Seq.{get_or-append-add}
 use Rattle.std.proofs.Math.IntN.{ℤ}
 use Rattle.std.specs.Int.Signed.{shr_z}
-use Rattle.foundation.specs.Lists.{getD-image}
+use Rattle.foundation.specs.Lists.{get_d_image}
 use Rattle.foundation.specs.Polynomial.{Expr, var, con, add, mul, neg, integers, expressions, solve}
 use Rattle.foundation.specs.Words.{args}
 use Rattle.definitions.specs.Jacobian.{Nodes, det}
-use Rattle.definitions.specs.Coefficients.{edge, middle, cornerVolume, edgeVolume, volumes, cornerTetrahedra, edgeTetrahedra}
-use Rattle.wide_volumes.specs.Range.{edgeLimit, digitLimit}
+use Rattle.definitions.specs.Coefficients.{edge, middle, corner_volume, edge_volume, volumes, corner_tetrahedra, edge_tetrahedra}
+use Rattle.wide_volumes.specs.Range.{edge_limit, digit_limit}
 
 -- ---- the digits of a number: the upper one rounded down, the lower one what is left
 abbrev pub upper : ℤ → ℤ
@@ -21,20 +21,20 @@ upper x = shr_z x 2048
 abbrev pub lower : ℤ → ℤ
 lower x = x -ℤ pos 2048 *ℤ upper x
 
-pub upper-small : (x : ℤ) → nat_abs x ≤ edgeLimit → nat_abs (upper x) ≤ digitLimit
-upper-small (pos n) h = omega (arith, h)
-upper-small (negsuc n) h = omega (arith, h)
+pub upper_small : (x : ℤ) → nat_abs x ≤ edge_limit → nat_abs (upper x) ≤ digit_limit
+upper_small (pos n) h = omega (arith, h)
+upper_small (negsuc n) h = omega (arith, h)
 
-lower-above : (n : ℕ) → lower (pos n) ≡ pos (n % 2048)
-lower-above n = ap (λ (m : ℕ). pos m -ℤ pos 2048 *ℤ pos (n / 2048)) whole
+lower_above : (n : ℕ) → lower (pos n) ≡ pos (n % 2048)
+lower_above n = ap (λ (m : ℕ). pos m -ℤ pos 2048 *ℤ pos (n / 2048)) whole
     ∙ solve (args (pos (n / 2048) ∷ pos (n % 2048) ∷ [])) (add (add (mul (con (pos 2048)) (var 0)) (var 1)) (neg (mul (con (pos 2048)) (var 0)))) (var 1) tt
   where
     whole : n ≡ 2048 * (n / 2048) + n % 2048
     whole = omega arith
 
 -- −(n + 1) is as much above a multiple of 2048 as is left to the next one
-lower-below : (n : ℕ) → lower (negsuc n) ≡ pos (2047 - n % 2048)
-lower-below n = solve (args (number ∷ next ∷ [])) (add (neg (var 0)) (neg (mul (con (pos 2048)) (neg (var 1))))) (add (neg (var 0)) (mul (con (pos 2048)) (var 1))) tt
+lower_below : (n : ℕ) → lower (negsuc n) ≡ pos (2047 - n % 2048)
+lower_below n = solve (args (number ∷ next ∷ [])) (add (neg (var 0)) (neg (mul (con (pos 2048)) (neg (var 1))))) (add (neg (var 0)) (mul (con (pos 2048)) (var 1))) tt
     ∙ ap (λ (m : ℕ). neg_ℤ number +ℤ pos m) (sym whole)
     ∙ solve (args (number ∷ pos (2047 - n % 2048) ∷ [])) (add (neg (var 0)) (add (var 0) (var 1))) (var 1) tt
   where
@@ -47,19 +47,19 @@ lower-below n = solve (args (number ∷ next ∷ [])) (add (neg (var 0)) (neg (m
     whole : suc n + (2047 - n % 2048) ≡ 2048 * suc (n / 2048)
     whole = omega arith
 
-pub lower-small : (x : ℤ) → nat_abs (lower x) ≤ digitLimit
-lower-small (pos n) = subst (λ (z : ℤ). nat_abs z ≤ digitLimit) (sym (lower-above n)) (omega arith)
-lower-small (negsuc n) = subst (λ (z : ℤ). nat_abs z ≤ digitLimit) (sym (lower-below n)) (omega arith)
+pub lower_small : (x : ℤ) → nat_abs (lower x) ≤ digit_limit
+lower_small (pos n) = subst (λ (z : ℤ). nat_abs z ≤ digit_limit) (sym (lower_above n)) (omega arith)
+lower_small (negsuc n) = subst (λ (z : ℤ). nat_abs z ≤ digit_limit) (sym (lower_below n)) (omega arith)
 
 -- ---- the digits of a volume: with f on the first vector's coordinates
-abbrev pub cornerDigit : (ℤ → ℤ) → Nodes ℤ → List ℕ → ℤ
-cornerDigit f x t = let n : ℕ → ℕ = λ i. get_or t i 0 in det integers (λ e. f (edge integers x (n 0) (n 1) e)) (edge integers x (n 0) (n 2)) (edge integers x (n 0) (n 3))
+abbrev pub corner_digit : (ℤ → ℤ) → Nodes ℤ → List ℕ → ℤ
+corner_digit f x t = let n : ℕ → ℕ = λ i. get_or t i 0 in det integers (λ e. f (edge integers x (n 0) (n 1) e)) (edge integers x (n 0) (n 2)) (edge integers x (n 0) (n 3))
 
-abbrev pub edgeDigit : (ℤ → ℤ) → Nodes ℤ → List ℕ → ℤ
-edgeDigit f x t = let n : ℕ → ℕ = λ i. get_or t i 0 in det integers (λ e. f (edge integers x (n 0) (n 1) e)) (middle integers x (n 0) (n 2) (n 3)) (middle integers x (n 0) (n 4) (n 5))
+abbrev pub edge_digit : (ℤ → ℤ) → Nodes ℤ → List ℕ → ℤ
+edge_digit f x t = let n : ℕ → ℕ = λ i. get_or t i 0 in det integers (λ e. f (edge integers x (n 0) (n 1) e)) (middle integers x (n 0) (n 2) (n 3)) (middle integers x (n 0) (n 4) (n 5))
 
 unfoldable pub digits : (ℤ → ℤ) → Nodes ℤ → List ℤ
-digits f x = map (cornerDigit f x) cornerTetrahedra ++ map (edgeDigit f x) edgeTetrahedra
+digits f x = map (corner_digit f x) corner_tetrahedra ++ map (edge_digit f x) edge_tetrahedra
 
 -- ---- volumes from their digits
 -- the number of two digits, the upper and the lower
@@ -67,8 +67,8 @@ abbrev pub whole : ℤ × ℤ → ℤ
 whole d = pos 2048 *ℤ d.0 +ℤ d.1
 
 -- a determinant is linear in its first vector
-det-whole : (u v w : ℕ → ℤ) → whole (det integers (λ e. upper (u e)) v w, det integers (λ e. lower (u e)) v w) ≡ det integers u v w
-det-whole u v w = solve (args (u 0 ∷ u 1 ∷ u 2 ∷ upper (u 0) ∷ upper (u 1) ∷ upper (u 2) ∷ v 0 ∷ v 1 ∷ v 2 ∷ w 0 ∷ w 1 ∷ w 2 ∷ []))
+det_whole : (u v w : ℕ → ℤ) → whole (det integers (λ e. upper (u e)) v w, det integers (λ e. lower (u e)) v w) ≡ det integers u v w
+det_whole u v w = solve (args (u 0 ∷ u 1 ∷ u 2 ∷ upper (u 0) ∷ upper (u 1) ∷ upper (u 2) ∷ v 0 ∷ v 1 ∷ v 2 ∷ w 0 ∷ w 1 ∷ w 2 ∷ []))
     (add (mul (con (pos 2048)) (det expressions above second third)) (det expressions below second third)) (det expressions (λ e. var e) second third) tt
   where
     above : ℕ → Expr
@@ -85,47 +85,47 @@ det-whole u v w = solve (args (u 0 ∷ u 1 ∷ u 2 ∷ upper (u 0) ∷ upper (u 
 
 -- the digits of the twenty volumes, the two of each together
 unfoldable pub pairs : Nodes ℤ → List (ℤ × ℤ)
-pairs x = map (λ t. (cornerDigit upper x t, cornerDigit lower x t)) cornerTetrahedra ++ map (λ t. (edgeDigit upper x t, edgeDigit lower x t)) edgeTetrahedra
+pairs x = map (λ t. (corner_digit upper x t, corner_digit lower x t)) corner_tetrahedra ++ map (λ t. (edge_digit upper x t, edge_digit lower x t)) edge_tetrahedra
 
-pub uppers-are : (x : Nodes ℤ) → digits upper x ≡ map (λ (d : ℤ × ℤ). d.0) (pairs x)
+pub uppers_are : (x : Nodes ℤ) → digits upper x ≡ map (λ (d : ℤ × ℤ). d.0) (pairs x)
 unfolding digits pairs
-uppers-are x = refl
+uppers_are x = refl
 
-pub lowers-are : (x : Nodes ℤ) → digits lower x ≡ map (λ (d : ℤ × ℤ). d.1) (pairs x)
+pub lowers_are : (x : Nodes ℤ) → digits lower x ≡ map (λ (d : ℤ × ℤ). d.1) (pairs x)
 unfolding digits pairs
-lowers-are x = refl
+lowers_are x = refl
 
 wholes : (f g h : List ℕ → ℤ) → ((t : List ℕ) → whole (f t, g t) ≡ h t) → (ts : List (List ℕ)) → map whole (map (λ t. (f t, g t)) ts) ≡ map h ts
 wholes f g h e [] = refl
 wholes f g h e (t ∷ ts) = ap₂ ◌∷◌ (e t) (wholes f g h e ts)
 
-pub volumes-are : (x : Nodes ℤ) → map whole (pairs x) ≡ volumes integers x
+pub volumes_are : (x : Nodes ℤ) → map whole (pairs x) ≡ volumes integers x
 unfolding pairs
-volumes-are x = ap₂ ◌++◌ (wholes (cornerDigit upper x) (cornerDigit lower x) (cornerVolume integers x) corner cornerTetrahedra) (wholes (edgeDigit upper x) (edgeDigit lower x) (edgeVolume integers x) at-middle edgeTetrahedra)
+volumes_are x = ap₂ ◌++◌ (wholes (corner_digit upper x) (corner_digit lower x) (corner_volume integers x) corner corner_tetrahedra) (wholes (edge_digit upper x) (edge_digit lower x) (edge_volume integers x) at_middle edge_tetrahedra)
   where
-    corner : (t : List ℕ) → whole (cornerDigit upper x t, cornerDigit lower x t) ≡ cornerVolume integers x t
-    corner t = let n : ℕ → ℕ = λ i. get_or t i 0 in det-whole (edge integers x (n 0) (n 1)) (edge integers x (n 0) (n 2)) (edge integers x (n 0) (n 3))
+    corner : (t : List ℕ) → whole (corner_digit upper x t, corner_digit lower x t) ≡ corner_volume integers x t
+    corner t = let n : ℕ → ℕ = λ i. get_or t i 0 in det_whole (edge integers x (n 0) (n 1)) (edge integers x (n 0) (n 2)) (edge integers x (n 0) (n 3))
 
-    at-middle : (t : List ℕ) → whole (edgeDigit upper x t, edgeDigit lower x t) ≡ edgeVolume integers x t
-    at-middle t = let n : ℕ → ℕ = λ i. get_or t i 0 in det-whole (edge integers x (n 0) (n 1)) (middle integers x (n 0) (n 2) (n 3)) (middle integers x (n 0) (n 4) (n 5))
+    at_middle : (t : List ℕ) → whole (edge_digit upper x t, edge_digit lower x t) ≡ edge_volume integers x t
+    at_middle t = let n : ℕ → ℕ = λ i. get_or t i 0 in det_whole (edge integers x (n 0) (n 1)) (middle integers x (n 0) (n 2) (n 3)) (middle integers x (n 0) (n 4) (n 5))
 
 -- ---- the digit at each place
 module _ (f : ℤ → ℤ) (x : Nodes ℤ) {k : ℕ} {t : List ℕ} where
-  pub corner-digit : k < 8 → get_or cornerTetrahedra k [] ≡ t → cornerDigit f x t ≡ args (digits f x) k
+  pub corner_digit_law : k < 8 → get_or corner_tetrahedra k [] ≡ t → corner_digit f x t ≡ args (digits f x) k
   unfolding digits
-  corner-digit h e = sym (get_or-append (map (cornerDigit f x) cornerTetrahedra) (map (edgeDigit f x) edgeTetrahedra) (pos 0) k h ∙ getD-image (cornerDigit f x) cornerTetrahedra k [] (pos 0) h
-      ∙ ap (cornerDigit f x) e)
+  corner_digit_law h e = sym (get_or-append (map (corner_digit f x) corner_tetrahedra) (map (edge_digit f x) edge_tetrahedra) (pos 0) k h ∙ get_d_image (corner_digit f x) corner_tetrahedra k [] (pos 0) h
+      ∙ ap (corner_digit f x) e)
 
-  pub edge-digit : 8 ≤ k → k < 20 → get_or edgeTetrahedra (k - 8) [] ≡ t → edgeDigit f x t ≡ args (digits f x) k
+  pub edge_digit_law : 8 ≤ k → k < 20 → get_or edge_tetrahedra (k - 8) [] ≡ t → edge_digit f x t ≡ args (digits f x) k
   unfolding digits
-  edge-digit g h e = sym (ap (args (corners ++ edges)) back ∙ get_or-append-add corners edges (k - 8) (pos 0) ∙ getD-image (edgeDigit f x) edgeTetrahedra (k - 8) [] (pos 0) (omega (arith, h))
-      ∙ ap (edgeDigit f x) e)
+  edge_digit_law g h e = sym (ap (args (corners ++ edges)) back ∙ get_or-append-add corners edges (k - 8) (pos 0) ∙ get_d_image (edge_digit f x) edge_tetrahedra (k - 8) [] (pos 0) (omega (arith, h))
+      ∙ ap (edge_digit f x) e)
     where
       corners : List ℤ
-      corners = map (cornerDigit f x) cornerTetrahedra
+      corners = map (corner_digit f x) corner_tetrahedra
 
       edges : List ℤ
-      edges = map (edgeDigit f x) edgeTetrahedra
+      edges = map (edge_digit f x) edge_tetrahedra
 
       back : k ≡ 8 + (k - 8)
       back = omega (arith, g)

@@ -5,11 +5,11 @@ ghost use Rattle.std.specs.Prelude.{◌≡◌, [], ◌∷◌, ◌+◌, ◌-◌, 
 ghost use Rattle.foundation.specs.Polynomial.{integers};
 ghost use Rattle.foundation.specs.Words.{Within};
 ghost use Rattle.definitions.specs.Limits.{base};
-ghost use Rattle.definitions.specs.Jacobian.{nodesOf, det};
-ghost use Rattle.definitions.specs.Coefficients.{cornerTetrahedra, edgeTetrahedra};
+ghost use Rattle.definitions.specs.Jacobian.{nodes_of, det};
+ghost use Rattle.definitions.specs.Coefficients.{corner_tetrahedra, edge_tetrahedra};
 ghost use Rattle.element_vectors.specs.Range.{InRange, Node};
 ghost use Rattle.element_vectors.specs.Vectors.{vector};
-ghost use Rattle.wide_volumes.specs.Range.{edgeLimit, middleLimit};
+ghost use Rattle.wide_volumes.specs.Range.{edge_limit, middle_limit};
 ghost use Rattle.wide_volumes.specs.Digits.{upper, lower, digits};
 ghost use Rattle.wide_volumes.specs.Begun.{Begun};
 
@@ -30,9 +30,9 @@ fn put_digits(
     high: &mut [i64; 20],
     low: &mut [i64; 20],
 )
-    requires fact_1 { Within edgeLimit (ux ∷ uy ∷ uz ∷ []) }
-    requires fact_2 { Within middleLimit (vx ∷ vy ∷ vz ∷ []) }
-    requires fact_3 { Within middleLimit (wx ∷ wy ∷ wz ∷ []) }
+    requires fact_1 { Within edge_limit (ux ∷ uy ∷ uz ∷ []) }
+    requires fact_2 { Within middle_limit (vx ∷ vy ∷ vz ∷ []) }
+    requires fact_3 { Within middle_limit (wx ∷ wy ∷ wz ∷ []) }
     requires fact_4 { k < 20 }
     ensures high_after { high.new ≡ set high.old k (det integers (λ e. upper (vector ux uy uz e)) (vector vx vy vz) (vector wx wy wz)) }
     ensures low_after { low.new ≡ set low.old k (det integers (λ e. lower (vector ux uy uz e)) (vector vx vy vz) (vector wx wy wz)) }
@@ -68,7 +68,7 @@ fn at_corner(
     low: &mut [i64; 20],
 )
     requires node_1 { Node a × Node b × Node c × Node d }
-    requires node_2 { (k < 8) × (get_or cornerTetrahedra k [] ≡ a ∷ b ∷ c ∷ d ∷ []) }
+    requires node_2 { (k < 8) × (get_or corner_tetrahedra k [] ≡ a ∷ b ∷ c ∷ d ∷ []) }
     requires begun { Begun p.now k high.old low.old }
     ensures { Begun p.now (k + 1) high.new low.new }
 {
@@ -103,7 +103,7 @@ fn at_edge(
     low: &mut [i64; 20],
 )
     requires node_1 { Node a × Node b × Node c × Node d × Node e × Node f }
-    requires node_2 { (8 ≤ k) × (k < 20) × (get_or edgeTetrahedra (k - 8) [] ≡ a ∷ b ∷ c ∷ d ∷ e ∷ f ∷ []) }
+    requires node_2 { (8 ≤ k) × (k < 20) × (get_or edge_tetrahedra (k - 8) [] ≡ a ∷ b ∷ c ∷ d ∷ e ∷ f ∷ []) }
     requires begun { Begun p.now k high.old low.old }
     ensures { Begun p.now (k + 1) high.new low.new }
 {
@@ -161,8 +161,8 @@ fn put_edges(p: &[i32; 24], high: &mut [i64; 20], low: &mut [i64; 20])
 pub fn digits(p: &[i32; 24], high: &mut [i64; 20], low: &mut [i64; 20])
     requires fact_1 { InRange base.range p.now }
     requires fact_2 { (length high.old ≡ 20) × (length low.old ≡ 20) }
-    ensures high_after { high.new ≡ digits upper (nodesOf p.now) }
-    ensures low_after { low.new ≡ digits lower (nodesOf p.now) }
+    ensures high_after { high.new ≡ digits upper (nodes_of p.now) }
+    ensures low_after { low.new ≡ digits lower (nodes_of p.now) }
 {
     put_corners(p, high, low);
     put_edges(p, high, low);

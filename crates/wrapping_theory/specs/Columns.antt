@@ -4,11 +4,11 @@ use Rattle.std.proofs.Common.{sym, ◌∙◌, ap, subst, add-mul, mul-add, mul_a
 use Rattle.std.proofs.Math.Arith.{digits_lt, digits_mod}
 
 -- ---- sums: k is carried from the low words, m out of the high ones
-carried-whole : (b a c x y low high k m : ℕ) → a + c ≡ k * b + low → x + y + k ≡ m * b + high → (x * b + a) + (y * b + c) ≡ m * (b * b) + (high * b + low)
-carried-whole b a c x y low high k m p q = omega (arith, p, simp (add-mul, mul_assoc) at (ap (λ (n : ℕ). n * b) q))
+carried_whole : (b a c x y low high k m : ℕ) → a + c ≡ k * b + low → x + y + k ≡ m * b + high → (x * b + a) + (y * b + c) ≡ m * (b * b) + (high * b + low)
+carried_whole b a c x y low high k m p q = omega (arith, p, simp (add-mul, mul_assoc) at (ap (λ (n : ℕ). n * b) q))
 
 pub carried : (b a c x y low high k m : ℕ) → low < b → high < b → a + c ≡ k * b + low → x + y + k ≡ m * b + high → high * b + low ≡ ((x * b + a) + (y * b + c)) % (b * b)
-carried b a c x y low high k m hl hh p q = rw (carried-whole b a c x y low high k m p q) (sym (digits_mod m (digits_lt hh hl)))
+carried b a c x y low high k m hl hh p q = rw (carried_whole b a c x y low high k m p q) (sym (digits_mod m (digits_lt hh hl)))
 
 -- ---- the whole product of two numbers, by the halves of each, over the base b of a half: t and s are the middle columns, with what the column before carries
 pub columns : (b u₀ u₁ v₀ v₁ q₀ r₀ qt rt qs rs : ℕ) → u₀ * v₀ ≡ q₀ * b + r₀ → u₁ * v₀ + q₀ ≡ qt * b + rt → u₀ * v₁ + rt ≡ qs * b + rs
@@ -25,9 +25,9 @@ pub halves_small : (a b : ℕ) → a < 2 ^ 32 → b < 2 ^ 32 → a * b ≤ 18446
 halves_small a b ha hb = mul-le-mul {n₁ = a} {m₁ = b} {n₂ = 4294967295} {m₂ = 4294967295} (omega arith) (omega arith)
 
 -- ---- the low two words of the product of numbers of two words: of the middle products only the low words count
-crossed-whole : (b a c x y low h p q pl ql r s : ℕ) → h * b + low ≡ a * c → p * b + pl ≡ x * c → q * b + ql ≡ a * y → h + (pl + ql) ≡ s * b + r
+crossed_whole : (b a c x y low h p q pl ql r s : ℕ) → h * b + low ≡ a * c → p * b + pl ≡ x * c → q * b + ql ≡ a * y → h + (pl + ql) ≡ s * b + r
     → (x * b + a) * (y * b + c) ≡ (x * y + p + q + s) * (b * b) + (r * b + low)
-crossed-whole b a c x y low h p q pl ql r s e f g k =
+crossed_whole b a c x y low h p q pl ql r s e f g k =
     let f' : p * (b * b) + pl * b ≡ x * (c * b) = simp (add-mul, mul_assoc) at (ap (λ (n : ℕ). n * b) f) in
     let g' : q * (b * b) + ql * b ≡ a * (y * b) = simp (add-mul, mul_assoc) at (ap (λ (n : ℕ). n * b) g) in
     let k' : h * b + (pl * b + ql * b) ≡ s * (b * b) + r * b = simp (add-mul, mul_assoc) at (ap (λ (n : ℕ). n * b) k) in
@@ -37,7 +37,7 @@ crossed-whole b a c x y low h p q pl ql r s e f g k =
 
 pub crossed : (b a c x y low h p q pl ql r s : ℕ) → low < b → r < b → h * b + low ≡ a * c → p * b + pl ≡ x * c → q * b + ql ≡ a * y → h + (pl + ql) ≡ s * b + r
     → r * b + low ≡ ((x * b + a) * (y * b + c)) % (b * b)
-crossed b a c x y low h p q pl ql r s hl hr e f g k = rw (crossed-whole b a c x y low h p q pl ql r s e f g k) (sym (digits_mod (x * y + p + q + s) (digits_lt hr hl)))
+crossed b a c x y low h p q pl ql r s hl hr e f g k = rw (crossed_whole b a c x y low h p q pl ql r s e f g k) (sym (digits_mod (x * y + p + q + s) (digits_lt hr hl)))
 
 -- ---- d times a number, where d · e is the base: each word shifted, with what the low word hands over
 scaled : (b d a x k low high m : ℕ) → low < b → high < b → d * a ≡ k * b + low → d * x + k ≡ m * b + high → high * b + low ≡ (d * (x * b + a)) % (b * b)

@@ -72,6 +72,6 @@ left_over m h (negsuc n) = record { times = pos (suc (n / m)); is = sub_cases (s
     below : n % m < m
     below = mod-lt n h
 
-pub remainder-below : (m : ℕ) → 0 < m → (z : ℤ) → remainder m z < m
-remainder-below m h (pos n) = mod-lt n h
-remainder-below m h (negsuc n) = omega (arith, h)
+pub remainder_below : (m : ℕ) → 0 < m → (z : ℤ) → remainder m z < m
+remainder_below m h (pos n) = mod-lt n h
+remainder_below m h (negsuc n) = omega (arith, h)

@@ -1,7 +1,7 @@
 -- Numbers of two words by example: what words are worth, and the words of whole numbers.
 use Rattle.std.specs.Prelude.{Bool, true, false, not, ◌&&◌, List, [], ◌∷◌, ℕ, ◌-◌, ◌^◌, T, eqb, ℤ, pos, negsuc}
 use Rattle.std.specs.Int.{w64, w128}
-use Rattle.definitions.specs.TwoWords.{value, low_word, high_word, wrapped, inOneWord}
+use Rattle.definitions.specs.TwoWords.{value, low_word, high_word, wrapped, in_one_word}
 
 -- two words, and the number that they are
 record Example : Type 0 where
@@ -19,9 +19,9 @@ same (negsuc m) (negsuc n) = eqb m n
 abbrev holds : Example → Bool
 holds e = same (value e.low e.high) e.number && (eqb (low_word e.number) e.low && eqb (high_word e.number) e.high)
 
-abbrev allHold : List Example → Bool
-allHold [] = true
-allHold (e ∷ es) = holds e && allHold es
+abbrev all_hold : List Example → Bool
+all_hold [] = true
+all_hold (e ∷ es) = holds e && all_hold es
 
 abbrev of : ℕ → ℕ → ℤ → Example
 of l h z = record { low = l; high = h; number = z }
@@ -39,14 +39,14 @@ examples =
     ∷ of (2 ^ 64 - 262144) (2 ^ 64 - 1) (negsuc 262143)
     ∷ []
 
-pub examples-hold : T (allHold examples)
+pub examples_hold : T (all_hold examples)
 unfolding value
-examples-hold = tt
+examples_hold = tt
 
 -- past the ends a number turns round, with two words and with one; which numbers one word holds
-pub turned-hold : T (same (wrapped w128 (pos (2 ^ 127))) (negsuc (2 ^ 127 - 1))
+pub turned_hold : T (same (wrapped w128 (pos (2 ^ 127))) (negsuc (2 ^ 127 - 1))
     && (same (wrapped w128 (negsuc (2 ^ 127))) (pos (2 ^ 127 - 1))
     && (same (wrapped w64 (pos (2 ^ 63))) (negsuc (2 ^ 63 - 1))
-    && (inOneWord (pos (2 ^ 63 - 1)) && (inOneWord (negsuc (2 ^ 63 - 1)) && (not (inOneWord (pos (2 ^ 63))) && not (inOneWord (negsuc (2 ^ 63)))))))))
+    && (in_one_word (pos (2 ^ 63 - 1)) && (in_one_word (negsuc (2 ^ 63 - 1)) && (not (in_one_word (pos (2 ^ 63))) && not (in_one_word (negsuc (2 ^ 63)))))))))
 unfolding wrapped
-turned-hold = tt
+turned_hold = tt

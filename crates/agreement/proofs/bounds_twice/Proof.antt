@@ -1,7 +1,7 @@
 -- `agreement::bounds_twice` meets its contract: both answers are the definition's. Assumes nothing.
 use mathlib.Core.Path.{sym, ap, ◌∙◌}
-use Rattle.inspection_answers.specs.Meaning.{boundsHeld}
-use Rattle.inspection_answers.specs.Back.{boundsBack}
+use Rattle.inspection_answers.specs.Meaning.{bounds_held}
+use Rattle.inspection_answers.specs.Back.{bounds_back}
 use borrow.Author.Rules.{rules}
 use Rattle.agreement.proofs.bounds_twice.Statement.{statement}
 use Rattle.agreement.proofs.bounds_twice.Tie as tie
@@ -20,8 +20,8 @@ bounds-again-requires-2 c κs = search rules
 
 returns : tie.Need-returns
 returns c = let again = c.before in let audited = again.before in let first = audited.before in (
-  again.bounds-again.ensures.0 ∙ ap boundsBack (first.bounds_of.ensures ∙ sym audited.bounds-of2.ensures) ∙ sym c.bounds-again2.ensures.0,
-  ap boundsHeld again.bounds-again.ensures.1 ∙ first.bounds_of.ensures,
+  again.bounds-again.ensures.0 ∙ ap bounds_back (first.bounds_of.ensures ∙ sym audited.bounds-of2.ensures) ∙ sym c.bounds-again2.ensures.0,
+  ap bounds_held again.bounds-again.ensures.1 ∙ first.bounds_of.ensures,
 )
 
 pub bounds-twice-spec : {M : Type 1} → statement M

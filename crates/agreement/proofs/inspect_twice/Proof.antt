@@ -2,8 +2,8 @@
 use mathlib.Core.Path.{sym, ◌∙◌}
 use lib.ListN.{length}
 use Rattle.definitions.specs.Limits.{base}
-use Rattle.definitions.specs.Mesh.{inspection, reportAfter}
-use Rattle.inspection_answers.specs.Back.{inspection-same}
+use Rattle.definitions.specs.Mesh.{inspection, report_after}
+use Rattle.inspection_answers.specs.Back.{inspection_same}
 use borrow.Author.Rules.{rules}
 use Rattle.agreement.proofs.inspect_twice.Statement.{statement}
 use Rattle.agreement.proofs.inspect_twice.Tie as tie
@@ -23,8 +23,8 @@ same-length-2 c = search rules
 returns : tie.Need-returns
 returns c = let one = c.before.before.before.before.inspect in let two = c.before.inspect2 in let s = c.before.before.before.before.before.before.before.args in (
   λ e. (
-    inspection-same one.result two.result (one.ensures.0 ∙ (λ i. inspection base s.coordinates.now s.indices.now (length (e i)) s.depth) ∙ sym two.ensures.0),
-    one.ensures.1 ∙ (λ i. reportAfter base s.coordinates.now s.indices.now (e i) s.depth) ∙ sym two.ensures.1,
+    inspection_same one.result two.result (one.ensures.0 ∙ (λ i. inspection base s.coordinates.now s.indices.now (length (e i)) s.depth) ∙ sym two.ensures.0),
+    one.ensures.1 ∙ (λ i. report_after base s.coordinates.now s.indices.now (e i) s.depth) ∙ sym two.ensures.1,
   ),
   ((one.ensures.0, one.ensures.1), (two.ensures.0, two.ensures.1)),
 )

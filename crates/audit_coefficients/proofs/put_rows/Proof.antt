@@ -4,7 +4,7 @@ use mathlib.Core.Path.{◌≡◌, subst}
 use Prim.Native.Nat.{ℕ, ◌-◌, ◌≤◌}
 use native.Mathlib.Omega.{arith}
 use lib.Dec.{lit≤}
-use Rattle.foundation.specs.Filled.{all-filled}
+use Rattle.foundation.specs.Filled.{all_filled}
 use Rattle.audit_coefficients.specs.Rows.{Begun, begin, next}
 use Rattle.audit_coefficients.proofs.put_rows.Statement.{statement}
 use Rattle.audit_coefficients.proofs.put_rows.Tie as tie
@@ -36,7 +36,7 @@ loop-again c = let r = c.before.before in let l = r.before.before in
 
 returns : tie.Need-returns invariant-loop decreases-loop
 returns c = let l = c.before in let e : l.loop.n ≡ 27 = omega arith in let b = subst (λ (n : ℕ). Begun l.before.args.v.now n l.loop.out) e l.loop.invariant.1 in
-    (all-filled _ b.numbers, b.words)
+    (all_filled _ b.numbers, b.words)
 
 pub put-rows-spec : {M : Type 1} → statement M
 put-rows-spec =

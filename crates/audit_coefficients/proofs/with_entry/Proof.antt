@@ -9,20 +9,20 @@ use mir.Val.{to_z}
 use mir.Facts.{to_z-of_z}
 use Rattle.foundation.specs.Polynomial.{var, con, add, mul, solve}
 use Rattle.foundation.specs.Words.{args}
-use Rattle.wrapping_theory.specs.Words.{value-fits}
+use Rattle.wrapping_theory.specs.Words.{value_fits}
 use Rattle.wrapping_theory.specs.Wrapping.{exact}
 use Rattle.wide_number.specs.Meaning.{value_of, modulo}
-use Rattle.audit_coefficients.specs.Rows.{modulo-left}
+use Rattle.audit_coefficients.specs.Rows.{modulo_left}
 use Rattle.audit_coefficients.proofs.with_entry.Statement.{statement}
 use Rattle.audit_coefficients.proofs.with_entry.Tie as tie
 
-nothing-added : (x y z : ℤ) → x ≡ pos 0 → z ≡ x *ℤ y +ℤ z
-nothing-added x y z e = sym (ap (λ (t : ℤ). t *ℤ y +ℤ z) e ∙ solve (args (y ∷ z ∷ [])) (add (mul (con (pos 0)) (var 0)) (var 1)) (var 1) tt)
+nothing_added : (x y z : ℤ) → x ≡ pos 0 → z ≡ x *ℤ y +ℤ z
+nothing_added x y z e = sym (ap (λ (t : ℤ). t *ℤ y +ℤ z) e ∙ solve (args (y ∷ z ∷ [])) (add (mul (con (pos 0)) (var 0)) (var 1)) (var 1) tt)
 
 returns : tie.Need-returns
 returns c = let s = c.before in
-    sym (exact w128 (value-fits s.args.sum.low s.args.sum.high (record { low-word = omega arith; high-word = omega arith })))
-    ∙ ap modulo (nothing-added s.args.entry (value_of s.args.volume) (value_of s.args.sum) (sym (to_z-of_z s.ranges.entry) ∙ ap (to_z w64) c.if1.true))
+    sym (exact w128 (value_fits s.args.sum.low s.args.sum.high (record { low_word_fits = omega arith; high_word_fits = omega arith })))
+    ∙ ap modulo (nothing_added s.args.entry (value_of s.args.volume) (value_of s.args.sum) (sym (to_z-of_z s.ranges.entry) ∙ ap (to_z w64) c.if1.true))
 
 from-i64-requires : tie.Need-from-i64-requires
 from-i64-requires c κs = search rules
@@ -37,7 +37,7 @@ returns-2 : tie.Need-returns-2
 returns-2 c = let t = c.before in let f = t.before in let s = f.before.before in let y = value_of s.args.volume in let z = value_of s.args.sum in
     c.add.ensures
     ∙ ap (λ (u : ℤ). modulo (u +ℤ z)) (t.mul.ensures ∙ ap (λ (x : ℤ). modulo (x *ℤ y)) (f.from-i64.ensures ∙ to_z-of_z s.ranges.entry))
-    ∙ modulo-left (s.args.entry *ℤ y) z
+    ∙ modulo_left (s.args.entry *ℤ y) z
 
 pub with-entry-spec : {M : Type 1} → statement M
 with-entry-spec = tie.close (tie.spec returns from-i64-requires mul-requires add-requires returns-2)

@@ -3,7 +3,7 @@ use mathlib.Core.Path.{◌≡◌, subst}
 use Prim.Native.Nat.{ℕ, ◌-◌, ◌≤◌, zero-le}
 use native.Mathlib.Omega.{arith}
 use borrow.Author.Rules.{rules}
-use Rattle.wide_array.specs.Rows.{none-held-yet}
+use Rattle.wide_array.specs.Rows.{none_held_yet}
 use Rattle.audit_cut.specs.Rows.{BothHeld, row_of, both_halves}
 use Rattle.audit_cut.proofs.cut.Statement.{statement}
 use Rattle.audit_cut.proofs.cut.Tie as tie
@@ -18,7 +18,7 @@ numbers-requires : tie.Need-numbers-requires invariant-loop decreases-loop
 numbers-requires c κs = search rules
 
 loop-holds : tie.Need-loop-init invariant-loop decreases-loop
-loop-holds c = let s = c.before in (zero-le, record { below = none-held-yet s.args.d 0 s.requires.0 s.requires.2; above = none-held-yet s.args.d 1 s.requires.0 s.requires.3 })
+loop-holds c = let s = c.before in (zero-le, record { below = none_held_yet s.args.d 0 s.requires.0 s.requires.2; above = none_held_yet s.args.d 1 s.requires.0 s.requires.3 })
 
 number-at-requires : tie.Need-number-at-requires invariant-loop decreases-loop
 number-at-requires c κs = (c.before.before.before.numbers.ensures, c.before.before.before.before.requires.1, c.before.loop-test.true, omega arith)

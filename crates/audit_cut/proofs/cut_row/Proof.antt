@@ -9,15 +9,15 @@ use mir.Syntax.{w128}
 use mir.Val.{SFits}
 use Rattle.foundation.specs.Polynomial.{integers}
 use Rattle.foundation.specs.Words.{args, Within}
-use Rattle.definitions.specs.Subdivision.{cutRow}
+use Rattle.definitions.specs.Subdivision.{cut_row}
 use Rattle.expansion_theory.specs.Rows.{line_at}
 use Rattle.expansion_theory.specs.RowLaws.{row_small}
-use Rattle.wrapping_theory.specs.Words.{value-fits}
+use Rattle.wrapping_theory.specs.Words.{value_fits}
 use Rattle.wide_number.specs.Meaning.{value_of}
-use Rattle.wide_array.specs.Word.{cutLargest}
-use Rattle.wide_array.specs.Values.{values, putNumber, put-length}
-use Rattle.wide_array.specs.Rows.{read-row, row_within, row_put}
-use Rattle.audit_cut.specs.Rows.{first-is, second_is, middle-is, fourth-is, last-is}
+use Rattle.wide_array.specs.Word.{cut_largest}
+use Rattle.wide_array.specs.Values.{values, put_number, put_length}
+use Rattle.wide_array.specs.Rows.{read_row, row_within, row_put}
+use Rattle.audit_cut.specs.Rows.{first_is, second_is, middle_is, fourth_is, last_is}
 use borrow.Author.Rules.{rules}
 use Rattle.audit_cut.proofs.cut_row.Statement.{statement}
 use Rattle.audit_cut.proofs.cut_row.Tie as tie
@@ -44,29 +44,29 @@ module _ (c : tie.After-at3) where
   line = line_at (values entry.args.c.now) entry.args.x entry.args.y entry.args.z
 
   row_is : (p ∷ q ∷ r ∷ []) ≡ line
-  row_is = let k = small entry in read-row entry.args.c.now entry.args.x entry.args.y entry.args.z k.0 k.1 k.2 c.before.before.at.ensures c.before.at2.ensures c.at3.ensures
+  row_is = let k = small entry in read_row entry.args.c.now entry.args.x entry.args.y entry.args.z k.0 k.1 k.2 c.before.before.at.ensures c.before.at2.ensures c.at3.ensures
 
-  row_read : Within cutLargest (p ∷ q ∷ r ∷ [])
-  row_read = subst (Within cutLargest) (sym row_is) (row_within entry.pre.1.below entry.args.x entry.args.y entry.args.z)
+  row_read : Within cut_largest (p ∷ q ∷ r ∷ [])
+  row_read = subst (Within cut_largest) (sym row_is) (row_within entry.pre.1.below entry.args.x entry.args.y entry.args.z)
 
-  cut : (h t : ℕ) → cutRow integers h (args (p ∷ q ∷ r ∷ [])) t ≡ cutRow integers h (args line) t
-  cut h t = ap (λ (xs : List ℤ). cutRow integers h (args xs) t) row_is
+  cut : (h t : ℕ) → cut_row integers h (args (p ∷ q ∷ r ∷ [])) t ≡ cut_row integers h (args line) t
+  cut h t = ap (λ (xs : List ℤ). cut_row integers h (args xs) t) row_is
 
 -- every number that is worked is one of two words
-middle-fits : (c : tie.After-add3) → SFits w128 (value_of c.add3.result)
-middle-fits c = value-fits _ _ (record { low-word = omega arith; high-word = omega arith })
+middle_fits : (c : tie.After-add3) → SFits w128 (value_of c.add3.result)
+middle_fits c = value_fits _ _ (record { low_word_fits = omega arith; high_word_fits = omega arith })
 
-first_fits : (c : tie.After-four-times) → SFits w128 (value_of c.four-times.result)
-first_fits c = value-fits _ _ (record { low-word = omega arith; high-word = omega arith })
+first_fits : (c : tie.After-four-times) → SFits w128 (value_of c.four_times.result)
+first_fits c = value_fits _ _ (record { low_word_fits = omega arith; high_word_fits = omega arith })
 
 second_fits : (c : tie.After-twice) → SFits w128 (value_of c.twice.result)
-second_fits c = value-fits _ _ (record { low-word = omega arith; high-word = omega arith })
+second_fits c = value_fits _ _ (record { low_word_fits = omega arith; high_word_fits = omega arith })
 
-fourth-fits : (c : tie.After-twice2) → SFits w128 (value_of c.twice2.result)
-fourth-fits c = value-fits _ _ (record { low-word = omega arith; high-word = omega arith })
+fourth_fits : (c : tie.After-twice2) → SFits w128 (value_of c.twice2.result)
+fourth_fits c = value_fits _ _ (record { low_word_fits = omega arith; high_word_fits = omega arith })
 
 last_fits : (c : tie.After-four-times2) → SFits w128 (value_of c.four-times2.result)
-last_fits c = value-fits _ _ (record { low-word = omega arith; high-word = omega arith })
+last_fits c = value_fits _ _ (record { low_word_fits = omega arith; high_word_fits = omega arith })
 
 at-requires : tie.Need-at-requires
 at-requires c κs = (small c).0
@@ -96,10 +96,10 @@ twice-requires : tie.Need-twice-requires
 twice-requires c κs = search rules
 
 put-requires-2 : tie.Need-put-requires-2
-put-requires-2 c κs = let s = c.before.before.before.before.before.before.before.before.before.before.before in ((small s).1, ap length c.before.before.put.ensures ∙ put-length c.before.before.before.before.four-times.result.low c.before.before.before.before.four-times.result.high s.args.x s.args.lower.now ∙ s.requires.1.below.sized)
+put-requires-2 c κs = let s = c.before.before.before.before.before.before.before.before.before.before.before in ((small s).1, ap length c.before.before.put.ensures ∙ put_length c.before.before.before.before.four_times.result.low c.before.before.before.before.four_times.result.high s.args.x s.args.lower.now ∙ s.requires.1.below.sized)
 
 put-requires-3 : tie.Need-put-requires-3
-put-requires-3 c κs = let s = c.before.before.before.before.before.before.before.before.before.before.before.before.before in ((small s).2, ap length (c.before.put2.ensures ∙ ap (putNumber c.before.before.before.twice.result.low c.before.before.before.twice.result.high s.args.y) c.before.before.before.before.put.ensures) ∙ put-length c.before.before.before.twice.result.low c.before.before.before.twice.result.high s.args.y (putNumber c.before.before.before.before.before.before.four-times.result.low c.before.before.before.before.before.before.four-times.result.high s.args.x s.args.lower.now) ∙ put-length c.before.before.before.before.before.before.four-times.result.low c.before.before.before.before.before.before.four-times.result.high s.args.x s.args.lower.now ∙ s.requires.1.below.sized)
+put-requires-3 c κs = let s = c.before.before.before.before.before.before.before.before.before.before.before.before.before in ((small s).2, ap length (c.before.put2.ensures ∙ ap (put_number c.before.before.before.twice.result.low c.before.before.before.twice.result.high s.args.y) c.before.before.before.before.put.ensures) ∙ put_length c.before.before.before.twice.result.low c.before.before.before.twice.result.high s.args.y (put_number c.before.before.before.before.before.before.four_times.result.low c.before.before.before.before.before.before.four_times.result.high s.args.x s.args.lower.now) ∙ put_length c.before.before.before.before.before.before.four_times.result.low c.before.before.before.before.before.before.four_times.result.high s.args.x s.args.lower.now ∙ s.requires.1.below.sized)
 
 put-requires-4 : tie.Need-put-requires-4
 put-requires-4 c κs = let s = c.before.before.before.before.before.before.before.before.before.before.before.before.before.before.before in ((small s).0, s.requires.1.above.sized)
@@ -108,13 +108,13 @@ twice-requires-2 : tie.Need-twice-requires-2
 twice-requires-2 c κs = search rules
 
 put-requires-5 : tie.Need-put-requires-5
-put-requires-5 c κs = let s = c.before.before.before.before.before.before.before.before.before.before.before.before.before.before.before.before.before.before in ((small s).1, ap length c.before.before.put4.ensures ∙ put-length c.before.before.before.before.before.before.before.before.before.before.before.before.add3.result.low c.before.before.before.before.before.before.before.before.before.before.before.before.add3.result.high s.args.x s.args.upper.now ∙ s.requires.1.above.sized)
+put-requires-5 c κs = let s = c.before.before.before.before.before.before.before.before.before.before.before.before.before.before.before.before.before.before in ((small s).1, ap length c.before.before.put4.ensures ∙ put_length c.before.before.before.before.before.before.before.before.before.before.before.before.add3.result.low c.before.before.before.before.before.before.before.before.before.before.before.before.add3.result.high s.args.x s.args.upper.now ∙ s.requires.1.above.sized)
 
 four-times-requires-2 : tie.Need-four-times-requires-2
 four-times-requires-2 c κs = search rules
 
 put-requires-6 : tie.Need-put-requires-6
-put-requires-6 c κs = let s = c.before.before.before.before.before.before.before.before.before.before.before.before.before.before.before.before.before.before.before.before.before in ((small s).2, ap length (c.before.before.put5.ensures ∙ ap (putNumber c.before.before.before.before.twice2.result.low c.before.before.before.before.twice2.result.high s.args.y) c.before.before.before.before.before.put4.ensures) ∙ put-length c.before.before.before.before.twice2.result.low c.before.before.before.before.twice2.result.high s.args.y (putNumber c.before.before.before.before.before.before.before.before.before.before.before.before.before.before.before.add3.result.low c.before.before.before.before.before.before.before.before.before.before.before.before.before.before.before.add3.result.high s.args.x s.args.upper.now) ∙ put-length c.before.before.before.before.before.before.before.before.before.before.before.before.before.before.before.add3.result.low c.before.before.before.before.before.before.before.before.before.before.before.before.before.before.before.add3.result.high s.args.x s.args.upper.now ∙ s.requires.1.above.sized)
+put-requires-6 c κs = let s = c.before.before.before.before.before.before.before.before.before.before.before.before.before.before.before.before.before.before.before.before.before in ((small s).2, ap length (c.before.before.put5.ensures ∙ ap (put_number c.before.before.before.before.twice2.result.low c.before.before.before.before.twice2.result.high s.args.y) c.before.before.before.before.before.put4.ensures) ∙ put_length c.before.before.before.before.twice2.result.low c.before.before.before.before.twice2.result.high s.args.y (put_number c.before.before.before.before.before.before.before.before.before.before.before.before.before.before.before.add3.result.low c.before.before.before.before.before.before.before.before.before.before.before.before.before.before.before.add3.result.high s.args.x s.args.upper.now) ∙ put_length c.before.before.before.before.before.before.before.before.before.before.before.before.before.before.before.add3.result.low c.before.before.before.before.before.before.before.before.before.before.before.before.before.before.before.add3.result.high s.args.x s.args.upper.now ∙ s.requires.1.above.sized)
 
 returns : tie.Need-returns
 returns c =
@@ -123,16 +123,16 @@ returns c =
     let row = row_read m in
     let neighbours = c.before.before.before.before.before.before.before.before.before.before.before.before.before.before.before.before.before.before.add.ensures in
     let others = c.before.before.before.before.before.before.before.before.before.before.before.before.before.before.before.before.before.add2.ensures in
-    let middle = middle-is (p m) (q m) (r m) row (middle-fits c.before.before.before.before.before.before.before.before.before.before.before.before.before.before.before.before) neighbours others c.before.before.before.before.before.before.before.before.before.before.before.before.before.before.before.before.add3.ensures in
+    let middle = middle_is (p m) (q m) (r m) row (middle_fits c.before.before.before.before.before.before.before.before.before.before.before.before.before.before.before.before) neighbours others c.before.before.before.before.before.before.before.before.before.before.before.before.before.before.before.before.add3.ensures in
     record {
       below = row_put s.pre.0 s.pre.1.below _ _ _ _ _ _
-          (first-is (p m) (q m) (r m) row (first_fits c.before.before.before.before.before.before.before.before.before.before.before.before.before.before.before) c.before.before.before.before.before.before.before.before.before.before.before.before.before.before.before.four-times.ensures ∙ cut m 0 0)
+          (first_is (p m) (q m) (r m) row (first_fits c.before.before.before.before.before.before.before.before.before.before.before.before.before.before.before) c.before.before.before.before.before.before.before.before.before.before.before.before.before.before.before.four_times.ensures ∙ cut m 0 0)
           (second_is (p m) (q m) (r m) row (second_fits c.before.before.before.before.before.before.before.before.before.before.before.before) neighbours others c.before.before.before.before.before.before.before.before.before.before.before.before.twice.ensures ∙ cut m 0 1)
-          (middle ∙ cut m 0 2) (c.before.before.before.before.before.before.before.before.put3.ensures ∙ ap (putNumber c.before.before.before.before.before.before.before.before.before.before.before.before.before.before.before.before.add3.result.low c.before.before.before.before.before.before.before.before.before.before.before.before.before.before.before.before.add3.result.high s.args.z) (c.before.before.before.before.before.before.before.before.before.before.put2.ensures ∙ ap (putNumber c.before.before.before.before.before.before.before.before.before.before.before.before.twice.result.low c.before.before.before.before.before.before.before.before.before.before.before.before.twice.result.high s.args.y) c.before.before.before.before.before.before.before.before.before.before.before.before.before.put.ensures));
+          (middle ∙ cut m 0 2) (c.before.before.before.before.before.before.before.before.put3.ensures ∙ ap (put_number c.before.before.before.before.before.before.before.before.before.before.before.before.before.before.before.before.add3.result.low c.before.before.before.before.before.before.before.before.before.before.before.before.before.before.before.before.add3.result.high s.args.z) (c.before.before.before.before.before.before.before.before.before.before.put2.ensures ∙ ap (put_number c.before.before.before.before.before.before.before.before.before.before.before.before.twice.result.low c.before.before.before.before.before.before.before.before.before.before.before.before.twice.result.high s.args.y) c.before.before.before.before.before.before.before.before.before.before.before.before.before.put.ensures));
       above = row_put s.pre.0 s.pre.1.above _ _ _ _ _ _
           (middle ∙ cut m 1 0)
-          (fourth-is (p m) (q m) (r m) row (fourth-fits c.before.before.before.before.before) neighbours others c.before.before.before.before.before.twice2.ensures ∙ cut m 1 1)
-          (last-is (p m) (q m) (r m) row (last_fits c.before.before) c.before.before.four-times2.ensures ∙ cut m 1 2) (c.put6.ensures ∙ ap (putNumber c.before.before.four-times2.result.low c.before.before.four-times2.result.high s.args.z) (c.before.before.before.put5.ensures ∙ ap (putNumber c.before.before.before.before.before.twice2.result.low c.before.before.before.before.before.twice2.result.high s.args.y) c.before.before.before.before.before.before.put4.ensures));
+          (fourth_is (p m) (q m) (r m) row (fourth_fits c.before.before.before.before.before) neighbours others c.before.before.before.before.before.twice2.ensures ∙ cut m 1 1)
+          (last_is (p m) (q m) (r m) row (last_fits c.before.before) c.before.before.four-times2.ensures ∙ cut m 1 2) (c.put6.ensures ∙ ap (put_number c.before.before.four-times2.result.low c.before.before.four-times2.result.high s.args.z) (c.before.before.before.put5.ensures ∙ ap (put_number c.before.before.before.before.before.twice2.result.low c.before.before.before.before.before.twice2.result.high s.args.y) c.before.before.before.before.before.before.put4.ensures));
     }
 
 pub cut-row-spec : {M : Type 1} → statement M

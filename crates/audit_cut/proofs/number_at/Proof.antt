@@ -4,7 +4,7 @@ use mathlib.Core.List.{List}
 use Prim.Native.Nat.{ℕ, ◌+◌, ◌*◌, ◌/◌, ◌%◌}
 use native.Mathlib.Omega.{arith}
 use lib.ListN.{get_or}
-use Rattle.audit_cut.specs.Rows.{in-row}
+use Rattle.audit_cut.specs.Rows.{in_row_law}
 use borrow.Author.Rules.{rules}
 use Rattle.audit_cut.proofs.number_at.Statement.{statement}
 use Rattle.audit_cut.proofs.number_at.Tie as tie
@@ -28,7 +28,7 @@ element-copy-out-result : tie.Need-element-copy-out-result
 element-copy-out-result c = search rules
 
 returns : tie.Need-returns
-returns c = let s = c.before.before in ap (λ (l : List ℕ). get_or l (9 * s.args.t + 3 * (s.args.j / 3) + s.args.j % 3) 0) s.requires.0 ∙ in-row s.args.d 0 s.args.j s.args.t c.before.if1.true s.requires.3
+returns c = let s = c.before.before in ap (λ (l : List ℕ). get_or l (9 * s.args.t + 3 * (s.args.j / 3) + s.args.j % 3) 0) s.requires.0 ∙ in_row_law s.args.d 0 s.args.j s.args.t c.before.if1.true s.requires.3
 
 mul-result-4 : tie.Need-overflow-mul-result-4
 mul-result-4 c = search rules
@@ -49,7 +49,7 @@ element-copy-out-result-2 : tie.Need-element-copy-out-result-2
 element-copy-out-result-2 c = search rules
 
 returns-2 : tie.Need-returns-2
-returns-2 c = let s = c.before.before.before in ap (λ (l : List ℕ). get_or l (9 * (s.args.j / 3) + 3 * s.args.t + s.args.j % 3) 0) s.requires.0 ∙ in-row s.args.d 1 s.args.j s.args.t c.before.if2.true s.requires.3
+returns-2 c = let s = c.before.before.before in ap (λ (l : List ℕ). get_or l (9 * (s.args.j / 3) + 3 * s.args.t + s.args.j % 3) 0) s.requires.0 ∙ in_row_law s.args.d 1 s.args.j s.args.t c.before.if2.true s.requires.3
 
 mul-result-7 : tie.Need-overflow-mul-result-7
 mul-result-7 c = search rules
@@ -71,7 +71,7 @@ element-copy-out-result-3 c = search rules
 
 returns-3 : tie.Need-returns-3
 returns-3 c = let s = c.before.before.before in let last : s.args.d ≡ 2 = omega (arith, s.requires.1, c.before.before.if1.false, c.before.if2.false) in
-    ap (λ (l : List ℕ). get_or l (9 * (s.args.j / 3) + 3 * (s.args.j % 3) + s.args.t) 0) s.requires.0 ∙ in-row s.args.d 2 s.args.j s.args.t last s.requires.3
+    ap (λ (l : List ℕ). get_or l (9 * (s.args.j / 3) + 3 * (s.args.j % 3) + s.args.t) 0) s.requires.0 ∙ in_row_law s.args.d 2 s.args.j s.args.t last s.requires.3
 
 pub number-at-spec : {M : Type 1} → statement M
 number-at-spec =

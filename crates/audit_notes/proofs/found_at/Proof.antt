@@ -3,7 +3,7 @@ use mathlib.Core.Path.{◌≡◌, ◌∙◌}
 use Prim.Native.Nat.{suc, ◌+◌, ◌-◌}
 use native.Mathlib.Omega.{arith}
 use Rattle.wide_array.specs.Values.{values, value_read}
-use Rattle.audit_notes.specs.Notes.{corner-found, cell-found}
+use Rattle.audit_notes.specs.Notes.{corner_found, cell_found}
 use borrow.Author.Rules.{rules}
 use Rattle.audit_notes.proofs.found_at.Statement.{statement}
 use Rattle.audit_notes.proofs.found_at.Tie as tie
@@ -46,7 +46,7 @@ returns c = let s = c.before.before.before.before.before in let g = s.args.g.now
     let number : j + 1 ≡ suc j = omega arith in
     let value = value_read g j (omega (arith, s.requires.3, s.requires.4)) c.before.before.before.before.at.ensures in
     (λ i. record { number = number i; a = s.args.a + c.before.before.side.ensures.0 i; b = s.args.b + c.before.side2.ensures.0 i; c = s.args.c + c.side3.ensures.0 i; value = value i })
-    ∙ corner-found s.args.a s.args.b s.args.c (values g) j (omega (arith, s.requires.3, c.before.before.before.if1.true))
+    ∙ corner_found s.args.a s.args.b s.args.c (values g) j (omega (arith, s.requires.3, c.before.before.before.if1.true))
 
 add-t8 : tie.Need-overflow-add-t8
 add-t8 c = search rules
@@ -55,7 +55,7 @@ returns-2 : tie.Need-returns-2
 returns-2 c = let s = c.before.before in let g = s.args.g.now in let j = s.args.k - 1 in
     let number : j + 1 ≡ suc j = omega arith in
     let value = value_read g j (omega (arith, s.requires.3, s.requires.4)) c.before.at.ensures in
-    (λ i. record { number = number i; a = s.args.a; b = s.args.b; c = s.args.c; value = value i }) ∙ cell-found s.args.a s.args.b s.args.c (values g) j (omega (arith, c.if1.false))
+    (λ i. record { number = number i; a = s.args.a; b = s.args.b; c = s.args.c; value = value i }) ∙ cell_found s.args.a s.args.b s.args.c (values g) j (omega (arith, c.if1.false))
 
 pub found-at-spec : {M : Type 1} → statement M
 found-at-spec =

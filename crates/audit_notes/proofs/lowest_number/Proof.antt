@@ -5,7 +5,7 @@ use native.Mathlib.Omega.{arith}
 use lib.IntN.{ℤ, pos}
 use lib.Signed.{le_z}
 use Rattle.wide_array.specs.Values.{values, value_read}
-use Rattle.audit_notes.specs.Notes.{Looked, looked-none, looked-on, looked-all}
+use Rattle.audit_notes.specs.Notes.{Looked, looked_none, looked_on, looked_all}
 use borrow.Author.Rules.{rules}
 use Rattle.audit_notes.proofs.lowest_number.Statement.{statement}
 use Rattle.audit_notes.proofs.lowest_number.Tie as tie
@@ -17,7 +17,7 @@ abbrev decreases-loop : tie.decreases-loop
 decreases-loop g n₀ k₀ n k = k
 
 loop-holds : tie.Need-loop-init invariant-loop decreases-loop
-loop-holds c = looked-none (values c.args.g.now)
+loop-holds c = looked_none (values c.args.g.now)
 
 sub_at : tie.Need-overflow-sub-at invariant-loop decreases-loop
 sub_at c = search rules
@@ -39,10 +39,10 @@ loop-less c = search rules
 
 loop-again : tie.Need-loop-preserved invariant-loop decreases-loop
 loop-again c = let l = c.before.before.before.before in let g = l.before.args.g.now in let k = l.loop.k in
-    looked-on (values g) k c.before.before.before.loop-test.true l.loop.invariant _ (c.before.at-most-zero.ensures ∙ ap (λ (z : ℤ). le_z z (pos 0)) (value_read g (k - 1) (omega arith) c.before.before.at.ensures)) c.choose.ensures
+    looked_on (values g) k c.before.before.before.loop-test.true l.loop.invariant _ (c.before.at-most-zero.ensures ∙ ap (λ (z : ℤ). le_z z (pos 0)) (value_read g (k - 1) (omega arith) c.before.before.at.ensures)) c.choose.ensures
 
 returns : tie.Need-returns invariant-loop decreases-loop
-returns c = let l = c.before in let last : l.loop.k ≡ 0 = omega arith in (looked-all (values l.before.args.g.now) l.loop.invariant last, l.loop.invariant.small)
+returns c = let l = c.before in let last : l.loop.k ≡ 0 = omega arith in (looked_all (values l.before.args.g.now) l.loop.invariant last, l.loop.invariant.small)
 
 pub lowest-number-spec : {M : Type 1} → statement M
 lowest-number-spec =

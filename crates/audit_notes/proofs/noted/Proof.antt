@@ -5,18 +5,18 @@ use Rattle.search_theory.specs.Meaning.{cell_of}
 use Rattle.audit_theory.specs.Walk.{opened, noted}
 use Rattle.wide_array.specs.Values.{values, values_length}
 use Rattle.audit_notes.specs.declared.Notes.{Notes}
-use Rattle.audit_notes.specs.Meaning.{notesOf}
-use Rattle.audit_notes.specs.Notes.{open-ended, seen}
+use Rattle.audit_notes.specs.Meaning.{notes_of}
+use Rattle.audit_notes.specs.Notes.{open_ended, seen}
 use borrow.Author.Rules.{rules}
 use Rattle.audit_notes.proofs.noted.Statement.{statement}
 use Rattle.audit_notes.proofs.noted.Tie as tie
 
 -- by the case that the notes are
 abbrev room : Notes → Type 0
-room n = opened (notesOf n) + 1 < 2 ^ 32
+room n = opened (notes_of n) + 1 < 2 ^ 32
 
-by : (s : tie.Start) {x : Notes} → s.args.n ≡ x → noted (cell_of s.args.a s.args.b s.args.c (values s.args.g.now)) (notesOf s.args.n) ≡ noted (cell_of s.args.a s.args.b s.args.c (values s.args.g.now)) (notesOf x)
-by s e = ap (λ (n : Notes). noted (cell_of s.args.a s.args.b s.args.c (values s.args.g.now)) (notesOf n)) e
+by : (s : tie.Start) {x : Notes} → s.args.n ≡ x → noted (cell_of s.args.a s.args.b s.args.c (values s.args.g.now)) (notes_of s.args.n) ≡ noted (cell_of s.args.a s.args.b s.args.c (values s.args.g.now)) (notes_of x)
+by s e = ap (λ (n : Notes). noted (cell_of s.args.a s.args.b s.args.c (values s.args.g.now)) (notes_of n)) e
 
 enum-known-n : tie.Need-enum-known-n
 enum-known-n c = search rules
@@ -49,10 +49,10 @@ returns-2 : tie.Need-returns-2
 returns-2 c = let s = c.before.before.before.before in c.later-look.ensures ∙ sym (by s c.before.before.n2.given.1)
 
 returns-3 : tie.Need-returns-3
-returns-3 c = let s = c.before.before.before in open-ended s.args.a s.args.b s.args.c (values s.args.g.now) _ _ ∙ sym (by s c.before.n3.given.1)
+returns-3 c = let s = c.before.before.before in open_ended s.args.a s.args.b s.args.c (values s.args.g.now) _ _ ∙ sym (by s c.before.n3.given.1)
 
 returns-4 : tie.Need-returns-4
-returns-4 c = let s = c.before.before.before.before.before in seen s.args.a s.args.b s.args.c (values s.args.g.now) (values_length s.args.g.now) _ _ c.before.least-with.ensures c.least-with2.ensures ∙ sym (by s c.before.before.before.n4.given.1)
+returns-4 c = let s = c.before.before.before.before.before in seen s.args.a s.args.b s.args.c (values s.args.g.now) (values_length s.args.g.now) _ _ c.before.least_with.ensures c.least-with2.ensures ∙ sym (by s c.before.before.before.n4.given.1)
 
 pub noted-spec : {M : Type 1} → statement M
 noted-spec =

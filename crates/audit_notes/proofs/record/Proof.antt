@@ -6,16 +6,16 @@ use native.Mathlib.Omega.{arith}
 use lib.IntN.{pos}
 use mir.Syntax.{w64}
 use mir.ValLaws.{to_z_pos}
-use Rattle.foundation.specs.Words.{signedLimit}
+use Rattle.foundation.specs.Words.{signed_limit}
 use Rattle.audit_notes.specs.declared.Notes.{Notes}
-use Rattle.audit_notes.specs.Meaning.{notesOf, recordIn}
+use Rattle.audit_notes.specs.Meaning.{notes_of, record_in}
 use borrow.Author.Rules.{rules}
 use Rattle.audit_notes.proofs.record.Statement.{statement}
 use Rattle.audit_notes.proofs.record.Tie as tie
 
 -- by the case that the notes are
-by : (s : tie.Start) {x : Notes} → s.args.n ≡ x → recordIn s.args.level (notesOf s.args.n) ≡ recordIn s.args.level (notesOf x)
-by s e = ap (λ (n : Notes). recordIn s.args.level (notesOf n)) e
+by : (s : tie.Start) {x : Notes} → s.args.n ≡ x → record_in s.args.level (notes_of s.args.n) ≡ record_in s.args.level (notes_of x)
+by s e = ap (λ (n : Notes). record_in s.args.level (notes_of n)) e
 
 enum-known-n : tie.Need-enum-known-n
 enum-known-n c = search rules
@@ -42,7 +42,7 @@ enum-known-n-4 : tie.Need-enum-known-n-4
 enum-known-n-4 c = search rules
 
 returns : tie.Need-returns
-returns c = let s = c.before.before.before in let e = c.before.n.given.1 in let level : s.args.level < signedLimit = omega arith in let few : c.before.n.given.0.0 < signedLimit = omega arith in
+returns c = let s = c.before.before.before in let e = c.before.n.given.1 in let level : s.args.level < signed_limit = omega arith in let few : c.before.n.given.0.0 < signed_limit = omega arith in
     (λ i. pos 0 ∷ to_z_pos w64 s.args.level level i ∷ pos 0 ∷ pos 0 ∷ pos 0 ∷ pos 0 ∷ pos 0 ∷ pos 0 ∷ to_z_pos w64 c.before.n.given.0.0 few i ∷ []) ∙ sym (by s e)
 
 returns-2 : tie.Need-returns-2

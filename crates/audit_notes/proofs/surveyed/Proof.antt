@@ -1,14 +1,14 @@
 -- `audit_notes::surveyed` meets its contract: case by case. Assumes nothing.
 use mathlib.Core.Path.{◌≡◌, sym, ap, ◌∙◌}
 use Rattle.audit_notes.specs.declared.Notes.{Notes}
-use Rattle.audit_notes.specs.Meaning.{notesOf, extremesIn}
+use Rattle.audit_notes.specs.Meaning.{notes_of, extremes_in}
 use borrow.Author.Rules.{rules}
 use Rattle.audit_notes.proofs.surveyed.Statement.{statement}
 use Rattle.audit_notes.proofs.surveyed.Tie as tie
 
 -- by the case that the notes are
-by : (s : tie.Start) {x : Notes} → s.args.n ≡ x → extremesIn (notesOf s.args.n) ≡ extremesIn (notesOf x)
-by s e = ap (λ (n : Notes). extremesIn (notesOf n)) e
+by : (s : tie.Start) {x : Notes} → s.args.n ≡ x → extremes_in (notes_of s.args.n) ≡ extremes_in (notes_of x)
+by s e = ap (λ (n : Notes). extremes_in (notes_of n)) e
 
 enum-known-n : tie.Need-enum-known-n
 enum-known-n c = search rules

@@ -10,11 +10,11 @@ use mir.Facts.{to_z-of_z}
 use Rattle.foundation.specs.Polynomial.{integers}
 use Rattle.foundation.specs.Words.{Op, arg, minus, times, plus, args, within}
 use Rattle.definitions.specs.Jacobian.{det}
-use Rattle.wrapping_theory.specs.Runs.{size_fits, run-exact}
-use Rattle.wrapping_theory.specs.Words.{value-fits}
+use Rattle.wrapping_theory.specs.Runs.{size_fits, run_exact}
+use Rattle.wrapping_theory.specs.Words.{value_fits}
 use Rattle.wide_number.specs.Meaning.{modulo}
-use Rattle.element_vectors.specs.Sizes.{det-small}
-use Rattle.audit_volumes.specs.Limits.{edgeLimit, middleLimit, volumeLimit}
+use Rattle.element_vectors.specs.Sizes.{det_small}
+use Rattle.audit_volumes.specs.Limits.{edge_limit, middle_limit, volume_limit}
 use borrow.Author.Rules.{rules}
 use Rattle.audit_volumes.proofs.determinant.Statement.{statement}
 use Rattle.audit_volumes.proofs.determinant.Tie as tie
@@ -36,9 +36,9 @@ module _ (s : tie.Start) where
   abbrev third : List ℤ
   third = s.args.wx ∷ s.args.wy ∷ s.args.wz ∷ []
 
-  whole-fits : SFits w128 (det integers (args first) (args second) (args third))
-  whole-fits = size_fits w128 volumeLimit (det integers (args first) (args second) (args third))
-      (det-small edgeLimit middleLimit (args first) (args second) (args third) (within edgeLimit first s.pre.0) (within middleLimit second s.pre.1.0) (within middleLimit third s.pre.1.1)) tt
+  whole_fits : SFits w128 (det integers (args first) (args second) (args third))
+  whole_fits = size_fits w128 volume_limit (det integers (args first) (args second) (args third))
+      (det_small edge_limit middle_limit (args first) (args second) (args third) (within edge_limit first s.pre.0) (within middle_limit second s.pre.1.0) (within middle_limit third s.pre.1.1)) tt
 
 from-i64-requires : tie.Need-from-i64-requires
 from-i64-requires c κs = search rules
@@ -96,8 +96,8 @@ returns c = let s = c.before.before.before.before.before.before.before.before.be
     let x = c.before.before.before.before.before.before.mul.ensures ∙ (λ i. modulo ((c.before.before.before.before.before.before.before.before.before.before.from-i647.ensures ∙ to_z-of_z s.ranges.ux) i *ℤ (c.before.before.before.before.before.before.before.minor.ensures ∙ λ i. modulo (modulo ((c.before.before.before.before.before.before.before.before.before.before.before.before.before.before.before.from-i642.ensures ∙ to_z-of_z s.ranges.vy) i *ℤ (c.before.before.before.before.before.before.before.before.before.before.before.from-i646.ensures ∙ to_z-of_z s.ranges.wz) i) -ℤ modulo ((c.before.before.before.before.before.before.before.before.before.before.before.before.before.before.from-i643.ensures ∙ to_z-of_z s.ranges.vz) i *ℤ (c.before.before.before.before.before.before.before.before.before.before.before.before.from-i645.ensures ∙ to_z-of_z s.ranges.wy) i))) i)) in
     let y = c.before.before.before.before.mul2.ensures ∙ (λ i. modulo ((c.before.before.before.before.before.before.before.before.before.from-i648.ensures ∙ to_z-of_z s.ranges.uy) i *ℤ (c.before.before.before.before.before.minor2.ensures ∙ λ i. modulo (modulo ((c.before.before.before.before.before.before.before.before.before.before.before.before.before.before.before.before.from-i64.ensures ∙ to_z-of_z s.ranges.vx) i *ℤ (c.before.before.before.before.before.before.before.before.before.before.before.from-i646.ensures ∙ to_z-of_z s.ranges.wz) i) -ℤ modulo ((c.before.before.before.before.before.before.before.before.before.before.before.before.before.before.from-i643.ensures ∙ to_z-of_z s.ranges.vz) i *ℤ (c.before.before.before.before.before.before.before.before.before.before.before.before.before.from-i644.ensures ∙ to_z-of_z s.ranges.wx) i))) i)) in
     let z = c.before.before.mul3.ensures ∙ (λ i. modulo ((c.before.before.before.before.before.before.before.before.from-i649.ensures ∙ to_z-of_z s.ranges.uz) i *ℤ (c.before.before.before.minor3.ensures ∙ λ i. modulo (modulo ((c.before.before.before.before.before.before.before.before.before.before.before.before.before.before.before.before.from-i64.ensures ∙ to_z-of_z s.ranges.vx) i *ℤ (c.before.before.before.before.before.before.before.before.before.before.before.before.from-i645.ensures ∙ to_z-of_z s.ranges.wy) i) -ℤ modulo ((c.before.before.before.before.before.before.before.before.before.before.before.before.before.before.before.from-i642.ensures ∙ to_z-of_z s.ranges.vy) i *ℤ (c.before.before.before.before.before.before.before.before.before.before.before.before.before.from-i644.ensures ∙ to_z-of_z s.ranges.wx) i))) i)) in
-    run-exact w128 (args (first s ++ second s ++ third s)) whole (value-fits c.add.result.low c.add.result.high (record { low-word = omega (arith, c.add.type-inv.1); high-word = omega (arith, c.add.type-inv.1) }))
-    (c.add.ensures ∙ (λ i. modulo ((c.before.sub.ensures ∙ λ i. modulo (x i -ℤ y i)) i +ℤ z i))) (whole-fits s)
+    run_exact w128 (args (first s ++ second s ++ third s)) whole (value_fits c.add.result.low c.add.result.high (record { low_word_fits = omega (arith, c.add.type-inv.1); high_word_fits = omega (arith, c.add.type-inv.1) }))
+    (c.add.ensures ∙ (λ i. modulo ((c.before.sub.ensures ∙ λ i. modulo (x i -ℤ y i)) i +ℤ z i))) (whole_fits s)
 
 pub determinant-spec : {M : Type 1} → statement M
 determinant-spec =

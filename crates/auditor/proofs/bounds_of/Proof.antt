@@ -7,14 +7,14 @@ use Rattle.definitions.specs.Limits.{base}
 use Rattle.definitions.specs.Mesh.{bounds}
 use Rattle.verdict_theory.specs.Extremes.{Extremes}
 use Rattle.mesh_points.specs.Meaning.{first_of}
-use Rattle.mesh_points.specs.Points.{read-within}
-use Rattle.inspection_answers.specs.Answers.{bounds-deep, bounds-outside, bounds-inside}
+use Rattle.mesh_points.specs.Points.{read_within}
+use Rattle.inspection_answers.specs.Answers.{bounds_deep, bounds_outside, bounds_inside}
 use borrow.Author.Rules.{rules}
 use Rattle.auditor.proofs.bounds_of.Statement.{statement}
 use Rattle.auditor.proofs.bounds_of.Tie as tie
 
 returns : tie.Need-returns
-returns c = sym (bounds-deep base c.before.args.t1 c.before.args.depth c.if1.true)
+returns c = sym (bounds_deep base c.before.args.t1 c.before.args.depth c.if1.true)
 
 out-of-range-requires : tie.Need-out-of-range-requires
 out-of-range-requires c κs = search rules
@@ -30,14 +30,14 @@ bounds-requires c κs =
     let o = c.before.before.before in
     let s = o.before.before.before in
     let sized = good_length (e_s_int w32) 24 s.args.t1 _ s.well-formed.0 in
-    (record { small = read-within base s.args.t1 (sym o.out_of_range.ensures ∙ ap first_of c.before.enum_told.given.1) sized }, omega (arith, o.before.before.if1.false))
+    (record { small = read_within base s.args.t1 (sym o.out_of_range.ensures ∙ ap first_of c.before.enum_told.given.1) sized }, omega (arith, o.before.before.if1.false))
 
 returns-2 : tie.Need-returns-2
 returns-2 c =
     let f = c.before in
     let o = f.before.before in
     let s = o.before.before.before in
-    sym (bounds-outside base s.args.t1 s.args.depth _ o.before.before.if1.false (sym o.out_of_range.ensures ∙ ap first_of f.first.given.1))
+    sym (bounds_outside base s.args.t1 s.args.depth _ o.before.before.if1.false (sym o.out_of_range.ensures ∙ ap first_of f.first.given.1))
 
 returns-3 : tie.Need-returns-3
 returns-3 c =
@@ -46,7 +46,7 @@ returns-3 c =
     let o = e.before.before in
     let s = o.before.before.before in
     ap (λ (x : Extremes). bounds x.low x.high) r.bounds.ensures
-    ∙ sym (bounds-inside base s.args.t1 s.args.depth o.before.before.if1.false (sym o.out_of_range.ensures ∙ ap first_of e.enum_told.given.1))
+    ∙ sym (bounds_inside base s.args.t1 s.args.depth o.before.before.if1.false (sym o.out_of_range.ensures ∙ ap first_of e.enum_told.given.1))
 
 pub bounds-of-spec : {M : Type 1} → statement M
 bounds-of-spec =

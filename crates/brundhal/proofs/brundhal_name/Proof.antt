@@ -1,10 +1,10 @@
 -- `brundhal_name` meets its contract: the number that answers and the part in force, as numbers. Assumes nothing.
 use borrow.Author.Rules.{rules}
-use Rattle.lot_format.specs.Format.{lotFile}
+use Rattle.lot_format.specs.Format.{lot_file}
 use Rattle.lot_format.specs.Runs.{groups_of}
 use Rattle.lot_format.specs.Naming.{naming}
-use Rattle.lot_naming.specs.Answers.{zero-named}
-use Rattle.brundhal_name_answers.specs.Names.{name-answered}
+use Rattle.lot_naming.specs.Answers.{zero_named}
+use Rattle.brundhal_name_answers.specs.Names.{name_answered}
 use Rattle.brundhal.proofs.brundhal_name.Statement.{statement}
 use Rattle.brundhal.proofs.brundhal_name.Tie as tie
 
@@ -22,9 +22,9 @@ returns c =
     let s = c.before.before.before.before.before.before.before.args in
     let p = c.before.part-in-force in
     let number = c.before.before.refusal-of in
-    name-answered s.label.now s.names.now (groups_of s.names.now s.lengths.now s.offsets.now) s.element p.result.start p.result.len p.ensures.0 p.ensures.1.0 p.ensures.1.1
-    (naming lotFile s.label.now s.names.now s.lengths.now s.offsets.now s.elements s.element)
-    (zero-named lotFile s.label.now s.names.now s.lengths.now s.offsets.now s.elements s.element)
+    name_answered s.label.now s.names.now (groups_of s.names.now s.lengths.now s.offsets.now) s.element p.result.start p.result.len p.ensures.0 p.ensures.1.0 p.ensures.1.1
+    (naming lot_file s.label.now s.names.now s.lengths.now s.offsets.now s.elements s.element)
+    (zero_named lot_file s.label.now s.names.now s.lengths.now s.offsets.now s.elements s.element)
     number.result number.ensures c.name.result c.name.ensures
 
 pub brundhal-name-spec : {M : Type 1} → statement M

@@ -2,8 +2,8 @@
 use Prim.Native.Nat.{◌≤◌}
 use native.Mathlib.Omega.{arith}
 use lib.ListN.{length}
-use Rattle.lot_format.specs.NumberLaws.{bytes-by-place}
-use Rattle.brundhal.proofs.Label.{label-short, lot-answered}
+use Rattle.lot_format.specs.NumberLaws.{bytes_by_place}
+use Rattle.brundhal.proofs.Label.{label_short, lot_answered}
 use borrow.Author.Rules.{rules}
 use Rattle.brundhal.proofs.brundhal_read_lot.Statement.{statement}
 use Rattle.brundhal.proofs.brundhal_read_lot.Tie as tie
@@ -16,7 +16,7 @@ cast-lot c =
     let known = c.before.before.before.before.before.before.before.before.before.before.before.before.before.before.before.before.before.before.before.before in
     let a = known.before.args in
     let read = c.before.before.before.before.before.before.before.before.before.read in
-    let short : length read.result.now ≤ 32 = label-short a.file.now a.nodes.now a.elements.now a.names.now a.lengths.now a.offsets.now (bytes-by-place a.file.now (λ i. omega (arith, known.shared-slice-known.given i))) read.result.now read.ensures.0 in omega (arith, short)
+    let short : length read.result.now ≤ 32 = label_short a.file.now a.nodes.now a.elements.now a.names.now a.lengths.now a.offsets.now (bytes_by_place a.file.now (λ i. omega (arith, known.shared-slice-known.given i))) read.result.now read.ensures.0 in omega (arith, short)
 
 lot-requires : tie.Need-lot-requires
 lot-requires c κs = search rules
@@ -42,7 +42,7 @@ returns c =
     let a = known.before.args in
     let read = c.before.before.before.before.before.before.before.before.before.before.read in
     let given = read.ensures in
-    let told = lot-answered a.file.now a.nodes.now a.elements.now a.names.now a.lengths.now a.offsets.now (bytes-by-place a.file.now (λ i. omega (arith, known.shared-slice-known.given i))) read.result.now given.0 _ given.1.1.1.1.1.1.0 c.lot.result c.lot.ensures in
+    let told = lot_answered a.file.now a.nodes.now a.elements.now a.names.now a.lengths.now a.offsets.now (bytes_by_place a.file.now (λ i. omega (arith, known.shared-slice-known.given i))) read.result.now given.0 _ given.1.1.1.1.1.1.0 c.lot.result c.lot.ensures in
     (told.0, (told.1, (given.1.0, (given.1.1.0, (given.1.1.1.0, (given.1.1.1.1.0, given.1.1.1.1.1.0))))))
 
 pub brundhal-read-lot-spec : {M : Type 1} → statement M

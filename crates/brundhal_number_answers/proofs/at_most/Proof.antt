@@ -1,7 +1,7 @@
 -- `brundhal_number_answers::at_most` meets its contract: the test of both numbers. Assumes nothing.
 use mathlib.Core.Path.{sym, ap, ap₂, ◌∙◌}
 use lib.Signed.{le_z}
-use Rattle.brundhal_number_answers.specs.Meaning.{answerNumber}
+use Rattle.brundhal_number_answers.specs.Meaning.{answer_number}
 use borrow.Author.Rules.{rules}
 use Rattle.brundhal_number_answers.proofs.at_most.Statement.{statement}
 use Rattle.brundhal_number_answers.proofs.at_most.Tie as tie
@@ -16,10 +16,10 @@ at-most-requires : tie.Need-at-most-requires
 at-most-requires c κs = search rules
 
 returns : tie.Need-returns
-returns c = sym (ap answerNumber (sym (ap₂ le_z c.before.before.before.wide.ensures c.before.before.wide2.ensures) ∙ sym c.before.at_most.ensures ∙ c.if1.true))
+returns c = sym (ap answer_number (sym (ap₂ le_z c.before.before.before.wide.ensures c.before.before.wide2.ensures) ∙ sym c.before.at_most.ensures ∙ c.if1.true))
 
 returns-2 : tie.Need-returns-2
-returns-2 c = sym (ap answerNumber (sym (ap₂ le_z c.before.before.before.wide.ensures c.before.before.wide2.ensures) ∙ sym c.before.at_most.ensures ∙ c.if1.false))
+returns-2 c = sym (ap answer_number (sym (ap₂ le_z c.before.before.before.wide.ensures c.before.before.wide2.ensures) ∙ sym c.before.at_most.ensures ∙ c.if1.false))
 
 pub at-most-spec : {M : Type 1} → statement M
 at-most-spec =

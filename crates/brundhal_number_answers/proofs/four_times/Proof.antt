@@ -16,7 +16,7 @@ words-requires : tie.Need-words-requires
 words-requires c κs = search rules
 
 returns : tie.Need-returns
-returns c = answered c.words.ensures c.before.four-times.ensures (ap (λ (z : ℤ). pos 4 *ℤ z) c.before.before.wide.ensures)
+returns c = answered c.words.ensures c.before.four_times.ensures (ap (λ (z : ℤ). pos 4 *ℤ z) c.before.before.wide.ensures)
 
 pub four-times-spec : {M : Type 1} → statement M
 four-times-spec = tie.close (tie.spec wide-requires four-times-requires words-requires returns)

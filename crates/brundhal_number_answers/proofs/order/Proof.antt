@@ -1,6 +1,6 @@
 -- `brundhal_number_answers::order` meets its contract: by the answer's cases. Assumes nothing.
 use mathlib.Core.Path.{sym, ap}
-use Rattle.brundhal_number_answers.specs.Meaning.{orderNumber}
+use Rattle.brundhal_number_answers.specs.Meaning.{order_number}
 use borrow.Author.Rules.{rules}
 use Rattle.brundhal_number_answers.proofs.order.Statement.{statement}
 use Rattle.brundhal_number_answers.proofs.order.Tie as tie
@@ -15,13 +15,13 @@ enum-told-3 : tie.Need-enum-told-3
 enum-told-3 c = search rules
 
 returns : tie.Need-returns
-returns c = sym (ap orderNumber c.enum_told.given.1)
+returns c = sym (ap order_number c.enum_told.given.1)
 
 returns-2 : tie.Need-returns-2
-returns-2 c = sym (ap orderNumber c.enum-told2.given.1)
+returns-2 c = sym (ap order_number c.enum-told2.given.1)
 
 returns-3 : tie.Need-returns-3
-returns-3 c = sym (ap orderNumber c.enum-told3.given.1)
+returns-3 c = sym (ap order_number c.enum-told3.given.1)
 
 pub order-spec : {M : Type 1} → statement M
 order-spec = tie.close (tie.spec enum_told enum-told-2 enum-told-3 returns returns-2 returns-3)

@@ -1,7 +1,7 @@
 -- `brundhal_number_answers::to_i64` meets its contract: what the number is in one word. Assumes nothing.
 use mathlib.Core.Path.{ap, ◌∙◌}
-use Rattle.wide_number.specs.Meaning.{singleOf}
-use Rattle.brundhal_number_answers.specs.Meaning.{singleNumbers}
+use Rattle.wide_number.specs.Meaning.{single_of}
+use Rattle.brundhal_number_answers.specs.Meaning.{single_numbers}
 use borrow.Author.Rules.{rules}
 use Rattle.brundhal_number_answers.proofs.to_i64.Statement.{statement}
 use Rattle.brundhal_number_answers.proofs.to_i64.Tie as tie
@@ -16,7 +16,7 @@ single-requires : tie.Need-single-requires
 single-requires c κs = search rules
 
 returns : tie.Need-returns
-returns c = c.single.ensures ∙ ap singleNumbers (c.before.to-i64.ensures ∙ ap singleOf c.before.before.wide.ensures)
+returns c = c.single.ensures ∙ ap single_numbers (c.before.to-i64.ensures ∙ ap single_of c.before.before.wide.ensures)
 
 pub to-i64-spec : {M : Type 1} → statement M
 to-i64-spec = tie.close (tie.spec wide-requires to-i64-requires single-requires returns)

@@ -1,11 +1,11 @@
 -- `brundhal_number_answers::words` meets its contract: the words of its value are its own. Assumes nothing.
 use native.Mathlib.Omega.{arith}
-use Rattle.brundhal_number_answers.proofs.Parts.{own-words}
+use Rattle.brundhal_number_answers.proofs.Parts.{own_words}
 use Rattle.brundhal_number_answers.proofs.words.Statement.{statement}
 use Rattle.brundhal_number_answers.proofs.words.Tie as tie
 
 returns : tie.Need-returns
-returns c = own-words c.args.x.low c.args.x.high (record { low-word = omega arith; high-word = omega arith })
+returns c = own_words c.args.x.low c.args.x.high (record { low_word_fits = omega arith; high_word_fits = omega arith })
 
 pub words-spec : {M : Type 1} → statement M
 words-spec = tie.close (tie.spec returns)

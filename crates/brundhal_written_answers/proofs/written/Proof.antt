@@ -4,8 +4,8 @@ use mathlib.Core.List.{[], ◌∷◌}
 use Prim.Native.Nat.{ℕ}
 use native.Mathlib.Omega.{arith}
 use Rattle.lot_writer.specs.declared.Written.{Written}
-use Rattle.lot_writer.specs.Meaning.{writtenHeld}
-use Rattle.brundhal_written_answers.specs.Meaning.{answerNumbers, ShortAnswer}
+use Rattle.lot_writer.specs.Meaning.{written_held}
+use Rattle.brundhal_written_answers.specs.Meaning.{answer_numbers, ShortAnswer}
 use borrow.Author.Rules.{rules}
 use Rattle.brundhal_written_answers.proofs.written.Statement.{statement}
 use Rattle.brundhal_written_answers.proofs.written.Tie as tie
@@ -23,10 +23,10 @@ unwritable-number-requires : tie.Need-unwritable-number-requires
 unwritable-number-requires c κs = search rules
 
 returns : tie.Need-returns
-returns c = sym (ap (λ (a : Written). answerNumbers (writtenHeld a)) c.before.answer.given.1)
+returns c = sym (ap (λ (a : Written). answer_numbers (written_held a)) c.before.answer.given.1)
 
 returns-2 : tie.Need-returns-2
-returns-2 c = ap (λ (n : ℕ). n ∷ 0 ∷ []) c.unwritable-number.ensures ∙ sym (ap (λ (a : Written). answerNumbers (writtenHeld a)) c.before.before.answer2.given.1)
+returns-2 c = ap (λ (n : ℕ). n ∷ 0 ∷ []) c.unwritable-number.ensures ∙ sym (ap (λ (a : Written). answer_numbers (written_held a)) c.before.before.answer2.given.1)
 
 pub written-spec : {M : Type 1} → statement M
 written-spec =

@@ -1,7 +1,7 @@
 -- `short_at` meets its contract. Assumes nothing.
 use borrow.Author.Rules.{rules}
 use native.Mathlib.Omega.{arith}
-use Rattle.lot_format.specs.NumberLaws.{number-two}
+use Rattle.lot_format.specs.NumberLaws.{number_two}
 use Rattle.bytes_input.proofs.short_at.Statement.{statement}
 use Rattle.bytes_input.proofs.short_at.Tie as tie
 
@@ -31,7 +31,7 @@ returns c =
     let s = c.before.before.before.before.before in
     let low = c.before.before.wide.ensures in
     let high = c.wide2.ensures in
-    (omega (arith, number-two s.args.file.now s.args.at (omega arith), low.0, high.0), omega (arith, low.1, high.1))
+    (omega (arith, number_two s.args.file.now s.args.at (omega arith), low.0, high.0), omega (arith, low.1, high.1))
 
 pub short-at-spec : {M : Type 1} → statement M
 short-at-spec =

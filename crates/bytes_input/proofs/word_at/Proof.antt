@@ -1,7 +1,7 @@
 -- `word_at` meets its contract. Assumes nothing.
 use native.Mathlib.Omega.{arith}
 use borrow.Author.Rules.{rules}
-use Rattle.lot_format.specs.NumberLaws.{number-four}
+use Rattle.lot_format.specs.NumberLaws.{number_four}
 use Rattle.bytes_input.proofs.word_at.Statement.{statement}
 use Rattle.bytes_input.proofs.word_at.Tie as tie
 
@@ -23,7 +23,7 @@ add-result c = search rules
 returns : tie.Need-returns
 returns c =
     let s = c.before.before.before in
-    omega (arith, number-four s.args.file.now s.args.at (omega arith), c.before.short-at.ensures.0, c.short-at2.ensures.0)
+    omega (arith, number_four s.args.file.now s.args.at (omega arith), c.before.short-at.ensures.0, c.short-at2.ensures.0)
 
 pub word-at-spec : {M : Type 1} → statement M
 word-at-spec =

@@ -5,7 +5,7 @@ use native.Mathlib.Omega.{arith}
 use borrow.Author.Rules.{rules}
 use lib.ListN.{length, length-set}
 use lib.Seq.{paste, paste-zero}
-use Rattle.foundation.specs.Laid.{paste-next, paste_all}
+use Rattle.foundation.specs.Laid.{paste_next, paste_all}
 use Rattle.bytes_output.proofs.bytes.Statement.{statement}
 use Rattle.bytes_output.proofs.bytes.Tie as tie
 
@@ -39,7 +39,7 @@ loop-again c =
     let l = c.before.before.loop in
     let far : s.args.at + l.k < length s.args.out.now = omega arith in
     let near : l.k < length s.args.xs.now = omega arith in
-    (omega arith, paste-next s.args.out.now l.out s.args.xs.now s.args.at l.k _ 0 far near l.invariant.1 refl, simp length-set l.invariant.2)
+    (omega arith, paste_next s.args.out.now l.out s.args.xs.now s.args.at l.k _ 0 far near l.invariant.1 refl, simp length-set l.invariant.2)
 
 add-result : tie.Need-overflow-add-result invariant-loop decreases-loop
 add-result c = search rules

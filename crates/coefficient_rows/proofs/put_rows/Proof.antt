@@ -3,7 +3,7 @@ use borrow.Author.Rules.{rules}
 use mathlib.Core.Path.{◌≡◌, subst}
 use Prim.Native.Nat.{ℕ, ◌-◌, ◌≤◌}
 use native.Mathlib.Omega.{arith}
-use Rattle.foundation.specs.Filled.{one-filled}
+use Rattle.foundation.specs.Filled.{one_filled}
 use Rattle.foundation.specs.Held.{read_back}
 use Rattle.coefficient_rows.specs.Rows.{FirstRows}
 use Rattle.coefficient_rows.proofs.put_rows.Statement.{statement}
@@ -34,7 +34,7 @@ loop-less : tie.Need-loop-smaller invariant-loop decreases-loop
 loop-less c = search rules
 
 loop-again : tie.Need-loop-preserved invariant-loop decreases-loop
-loop-again c = let l = c.before.before in (omega arith, one-filled _ l.loop.invariant.1 (omega arith) (read_back c.row.type-inv c.row.ensures))
+loop-again c = let l = c.before.before in (omega arith, one_filled _ l.loop.invariant.1 (omega arith) (read_back c.row.type-inv c.row.ensures))
 
 returns : tie.Need-returns invariant-loop decreases-loop
 returns c = let l = c.before in let e : l.loop.n ≡ l.before.args.end = omega arith in subst (λ (n : ℕ). FirstRows l.before.args.v.now n l.loop.out) e l.loop.invariant.1

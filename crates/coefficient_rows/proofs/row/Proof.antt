@@ -3,8 +3,8 @@ use borrow.Author.Rules.{rules}
 use Prim.Native.Nat.{◌+◌, ◌≤◌}
 use native.Mathlib.Omega.{arith}
 use lib.ListN.{get_or}
-use Rattle.coefficient_table.specs.SparseRuns.{starts-ordered, row_inside}
-use Rattle.coefficient_rows.proofs.Sums.{Summed, none_left, column-inside, product-fits, sum_fits, sum-held, row-summed}
+use Rattle.coefficient_table.specs.SparseRuns.{starts_ordered, row_inside}
+use Rattle.coefficient_rows.proofs.Sums.{Summed, none_left, column_inside, product_fits, sum_fits, sum_held, row_summed}
 use Rattle.coefficient_rows.proofs.row.Statement.{statement}
 use Rattle.coefficient_rows.proofs.row.Tie as tie
 
@@ -34,7 +34,7 @@ element-copy-out-k : tie.Need-element-copy-out-k invariant-loop decreases-loop
 element-copy-out-k c = search rules
 
 loop-holds : tie.Need-loop-init invariant-loop decreases-loop
-loop-holds c = let s = c.before.before in (starts-ordered s.requires.0 s.args.n s.requires.1.0, omega arith, row_inside s.requires.0 s.args.n s.requires.1.0, none_left s.args.columns.now s.args.values.now s.args.v.now (get_or s.args.starts.now (s.args.n + 1) 0))
+loop-holds c = let s = c.before.before in (starts_ordered s.requires.0 s.args.n s.requires.1.0, omega arith, row_inside s.requires.0 s.args.n s.requires.1.0, none_left s.args.columns.now s.args.values.now s.args.v.now (get_or s.args.starts.now (s.args.n + 1) 0))
 
 sub-k : tie.Need-overflow-sub-k invariant-loop decreases-loop
 sub-k c = search rules
@@ -52,13 +52,13 @@ element-copy-out-sum : tie.Need-element-copy-out-sum invariant-loop decreases-lo
 element-copy-out-sum c = search rules
 
 mul-sum-2 : tie.Need-overflow-mul-sum-2 invariant-loop decreases-loop
-mul-sum-2 c = let l = c.before.before.before in let s = start l in record { fits = omega (arith, column-inside s.pre.0 s.pre.1.0 s.pre.1.1 (omega arith) l.loop.invariant.1) }
+mul-sum-2 c = let l = c.before.before.before in let s = start l in record { fits = omega (arith, column_inside s.pre.0 s.pre.1.0 s.pre.1.1 (omega arith) l.loop.invariant.1) }
 
 element-copy-out-sum-2 : tie.Need-element-copy-out-sum-2 invariant-loop decreases-loop
-element-copy-out-sum-2 c = let l = c.before.before.before in let s = start l in column-inside s.pre.0 s.pre.1.0 s.pre.1.1 (omega arith) l.loop.invariant.1
+element-copy-out-sum-2 c = let l = c.before.before.before in let s = start l in column_inside s.pre.0 s.pre.1.0 s.pre.1.1 (omega arith) l.loop.invariant.1
 
 mul-sum-3 : tie.Need-overflow-mul-sum-3 invariant-loop decreases-loop
-mul-sum-3 c = let l = c.before.before.before.before in let s = start l in product-fits s.pre.0 s.pre.1.0 s.pre.1.1 (omega arith) l.loop.invariant.1
+mul-sum-3 c = let l = c.before.before.before.before in let s = start l in product_fits s.pre.0 s.pre.1.0 s.pre.1.1 (omega arith) l.loop.invariant.1
 
 add-sum : tie.Need-overflow-add-sum invariant-loop decreases-loop
 add-sum c = let l = c.before.before.before.before in let s = start l in sum_fits s.pre.0 s.pre.1.0 s.pre.1.1 (omega arith) l.loop.invariant.1 l.loop.invariant.3
@@ -67,10 +67,10 @@ loop-less : tie.Need-loop-smaller invariant-loop decreases-loop
 loop-less c = search rules
 
 loop-again : tie.Need-loop-preserved invariant-loop decreases-loop
-loop-again c = let l = c.before.before.before.before in let s = start l in (omega arith, omega arith, l.loop.invariant.2, sum-held s.pre.0 s.pre.1.0 s.pre.1.1 (omega arith) l.loop.invariant.1 l.loop.invariant.3)
+loop-again c = let l = c.before.before.before.before in let s = start l in (omega arith, omega arith, l.loop.invariant.2, sum_held s.pre.0 s.pre.1.0 s.pre.1.1 (omega arith) l.loop.invariant.1 l.loop.invariant.3)
 
 returns : tie.Need-returns invariant-loop decreases-loop
-returns c = let l = c.before in let s = start l in row-summed s.pre.0 s.pre.1.0 s.pre.1.1 (omega arith) l.loop.invariant.3
+returns c = let l = c.before in let s = start l in row_summed s.pre.0 s.pre.1.0 s.pre.1.1 (omega arith) l.loop.invariant.3
 
 pub row-spec : {M : Type 1} → statement M
 row-spec =

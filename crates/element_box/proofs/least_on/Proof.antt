@@ -9,12 +9,12 @@ use mir.Syntax.{w32}
 use mir.Val.{to_z}
 use mir.ValLaws.{to_z-of_z}
 use Rattle.foundation.specs.Least.{lesser}
-use Rattle.element_box.specs.Box.{leastTo, onAxis}
+use Rattle.element_box.specs.Box.{least_to, on_axis}
 use Rattle.element_box.proofs.least_on.Statement.{statement}
 use Rattle.element_box.proofs.least_on.Tie as tie
 
 abbrev invariant-loop : tie.invariant-loop
-invariant-loop p e r₀ k₀ r k = (1 ≤ k) × (k ≤ 8) × (to_z w32 r ≡ leastTo (onAxis p e) (k - 1))
+invariant-loop p e r₀ k₀ r k = (1 ≤ k) × (k ≤ 8) × (to_z w32 r ≡ least_to (on_axis p e) (k - 1))
 
 abbrev decreases-loop : tie.decreases-loop
 decreases-loop p e r₀ k₀ r k = 8 - k
@@ -53,19 +53,19 @@ loop-again : tie.Need-loop-preserved invariant-loop decreases-loop
 loop-again c =
     let l = c.before.before.before in
     let s = l.before.before in
-    let f = onAxis s.args.p.now s.args.e in
+    let f = on_axis s.args.p.now s.args.e in
     let k = l.loop.k in
     let now : suc (k - 1) ≡ k = omega (arith, l.loop.invariant.0) in
     let next : k ≡ k + 1 - 1 = omega arith in (
       omega arith,
       omega arith,
       to_z-of_z w32 c.lesser.result (record { sfits = c.lesser.type-inv }) ∙ c.lesser.ensures
-          ∙ ap₂ lesser l.loop.invariant.2 (to_z-of_z w32 (f k) (record { sfits = c.before.x.given }) ∙ ap f (sym now)) ∙ ap (leastTo f) (now ∙ next),
+          ∙ ap₂ lesser l.loop.invariant.2 (to_z-of_z w32 (f k) (record { sfits = c.before.x.given }) ∙ ap f (sym now)) ∙ ap (least_to f) (now ∙ next),
     )
 
 returns : tie.Need-returns invariant-loop decreases-loop
 returns c = let s = c.before.before.before in let e : c.before.loop.k - 1 ≡ 7 = omega arith in
-    c.before.loop.invariant.2 ∙ ap (leastTo (onAxis s.args.p.now s.args.e)) e
+    c.before.loop.invariant.2 ∙ ap (least_to (on_axis s.args.p.now s.args.e)) e
 
 pub least-on-spec : {M : Type 1} → statement M
 least-on-spec =

@@ -6,9 +6,9 @@ use lib.Dec.{T}
 use lib.IntN.{ℤ, nat_abs}
 use mir.Syntax.{w64}
 use mir.Val.{SFits}
-use Rattle.foundation.specs.Words.{Op, arg, minus, times, plus, fits, result, args, split, within-split, result_fits, held-is}
-use Rattle.element_vectors.specs.Fitting.{Sort, alike, shorter, firstLimit}
-use Rattle.element_corners.specs.Weighing.{cofactorLimit}
+use Rattle.foundation.specs.Words.{Op, arg, minus, times, plus, fits, result, args, split, within_split, result_fits, held_is}
+use Rattle.element_vectors.specs.Fitting.{Sort, alike, shorter, first_limit}
+use Rattle.element_corners.specs.Weighing.{cofactor_limit}
 use Rattle.element_corners.proofs.against.Statement.{statement}
 use Rattle.element_corners.proofs.against.Tie as tie
 
@@ -23,10 +23,10 @@ numbers c = args (first c ++ others c)
 
 -- the limits of the six numbers
 abbrev limits : Sort → ℕ → ℕ
-limits s = split 3 (firstLimit s) (cofactorLimit s)
+limits s = split 3 (first_limit s) (cofactor_limit s)
 
 bounded : (c : tie.Start) (i : ℕ) → nat_abs (numbers c i) ≤ limits c.requires.sort i
-bounded c = let s = c.requires.sort in within-split (firstLimit s) (cofactorLimit s) (first c) (others c) c.requires.first c.requires.second
+bounded c = let s = c.requires.sort in within_split (first_limit s) (cofactor_limit s) (first c) (others c) c.requires.first c.requires.second
 
 -- a test that both sorts of limits pass
 passes : (P : (ℕ → ℕ) → Bool) → T (P (limits alike)) → T (P (limits shorter)) → (s : Sort) → T (P (limits s))
@@ -62,7 +62,7 @@ add-result : tie.Need-overflow-add-result
 add-result c = fit c three tt tt
 
 returns : tie.Need-returns
-returns c = held-is (numbers c) (limits c.requires.sort) (bounded c) three (passes (λ β. fits β three) tt tt c.requires.sort)
+returns c = held_is (numbers c) (limits c.requires.sort) (bounded c) three (passes (λ β. fits β three) tt tt c.requires.sort)
 
 pub against-spec : {M : Type 1} → statement M
 against-spec = tie.close (tie.spec mul-result mul-result-2 sub-result mul-result-3 add-result returns)

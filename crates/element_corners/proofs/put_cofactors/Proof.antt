@@ -7,9 +7,9 @@ use lib.ListN.{set}
 use mir.Syntax.{w64}
 use mir.Val.{SFits}
 use mathlib.Core.Path.{◌≡◌}
-use Rattle.foundation.specs.Words.{Op, arg, minus, times, fits, formula, held, result, args, within, result_fits, held-is}
+use Rattle.foundation.specs.Words.{Op, arg, minus, times, fits, formula, held, result, args, within, result_fits, held_is}
 use Rattle.foundation.specs.Polynomial.{eval}
-use Rattle.element_corners.specs.Sizes.{cornerExtent}
+use Rattle.element_corners.specs.Sizes.{corner_extent}
 use borrow.Author.Rules.{rules}
 use Rattle.element_corners.proofs.put_cofactors.Statement.{statement}
 use Rattle.element_corners.proofs.put_cofactors.Tie as tie
@@ -17,11 +17,11 @@ use Rattle.element_corners.proofs.put_cofactors.Tie as tie
 abbrev numbers : tie.Start → List ℤ
 numbers s = s.args.vx ∷ s.args.vy ∷ s.args.vz ∷ s.args.wx ∷ s.args.wy ∷ s.args.wz ∷ []
 
-fit : (s : tie.Start) (o : Op) → T (fits (λ _. cornerExtent) o) → SFits w64 (result (args (numbers s)) o)
-fit s = result_fits (args (numbers s)) (λ _. cornerExtent) (within cornerExtent (numbers s) s.requires.0)
+fit : (s : tie.Start) (o : Op) → T (fits (λ _. corner_extent) o) → SFits w64 (result (args (numbers s)) o)
+fit s = result_fits (args (numbers s)) (λ _. corner_extent) (within corner_extent (numbers s) s.requires.0)
 
-read : (s : tie.Start) (o : Op) → T (fits (λ _. cornerExtent) o) → held (args (numbers s)) o ≡ eval (args (numbers s)) (formula o)
-read s = held-is (args (numbers s)) (λ _. cornerExtent) (within cornerExtent (numbers s) s.requires.0)
+read : (s : tie.Start) (o : Op) → T (fits (λ _. corner_extent) o) → held (args (numbers s)) o ≡ eval (args (numbers s)) (formula o)
+read s = held_is (args (numbers s)) (λ _. corner_extent) (within corner_extent (numbers s) s.requires.0)
 
 -- a coordinate of v, the first number, times one of w, the second
 abbrev vw : ℕ → ℕ → Op

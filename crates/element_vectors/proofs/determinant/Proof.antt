@@ -6,8 +6,8 @@ use lib.Dec.{T}
 use lib.IntN.{ℤ, nat_abs}
 use mir.Syntax.{w64}
 use mir.Val.{SFits}
-use Rattle.foundation.specs.Words.{Op, arg, minus, times, plus, fits, result, args, split, within-split, result_fits, held-is}
-use Rattle.element_vectors.specs.Fitting.{Sort, alike, shorter, firstLimit, otherLimit}
+use Rattle.foundation.specs.Words.{Op, arg, minus, times, plus, fits, result, args, split, within_split, result_fits, held_is}
+use Rattle.element_vectors.specs.Fitting.{Sort, alike, shorter, first_limit, other_limit}
 use Rattle.element_vectors.proofs.determinant.Statement.{statement}
 use Rattle.element_vectors.proofs.determinant.Tie as tie
 
@@ -22,11 +22,11 @@ numbers c = args (first c ++ others c)
 
 -- the limits of the nine numbers
 abbrev limits : Sort → ℕ → ℕ
-limits s = split 3 (firstLimit s) (otherLimit s)
+limits s = split 3 (first_limit s) (other_limit s)
 
 bounded : (c : tie.Start) (i : ℕ) → nat_abs (numbers c i) ≤ limits c.requires.sort i
 bounded c = let s = c.requires.sort in let v = c.requires.second in
-    within-split (firstLimit s) (otherLimit s) (first c) (others c) c.requires.first (v.0, (v.1.0, (v.1.1.0, c.requires.third)))
+    within_split (first_limit s) (other_limit s) (first c) (others c) c.requires.first (v.0, (v.1.0, (v.1.1.0, c.requires.third)))
 
 -- a test that both sorts of limits pass
 passes : (P : (ℕ → ℕ) → Bool) → T (P (limits alike)) → T (P (limits shorter)) → (s : Sort) → T (P (limits s))
@@ -41,24 +41,24 @@ fit c o a b = result_fits (numbers c) (limits c.requires.sort) (bounded c) o (pa
 abbrev vw : ℕ → ℕ → Op
 vw i j = times (arg i) (arg j)
 
-abbrev minor-x : Op
-minor-x = minus (vw 4 8) (vw 5 7)
+abbrev minor_x : Op
+minor_x = minus (vw 4 8) (vw 5 7)
 
-abbrev minor-y : Op
-minor-y = minus (vw 3 8) (vw 5 6)
+abbrev minor_y : Op
+minor_y = minus (vw 3 8) (vw 5 6)
 
-abbrev minor-z : Op
-minor-z = minus (vw 3 7) (vw 4 6)
+abbrev minor_z : Op
+minor_z = minus (vw 3 7) (vw 4 6)
 
 abbrev two : Op
-two = minus (times (arg 0) minor-x) (times (arg 1) minor-y)
+two = minus (times (arg 0) minor_x) (times (arg 1) minor_y)
 
 abbrev three : Op
-three = plus two (times (arg 2) minor-z)
+three = plus two (times (arg 2) minor_z)
 
 -- what is answered
 returns : tie.Need-returns
-returns c = held-is (numbers c) (limits c.requires.sort) (bounded c) three (passes (λ β. fits β three) tt tt c.requires.sort)
+returns c = held_is (numbers c) (limits c.requires.sort) (bounded c) three (passes (λ β. fits β three) tt tt c.requires.sort)
 
 -- what each operation asks
 mul-result : tie.Need-overflow-mul-result
@@ -68,10 +68,10 @@ mul-result-2 : tie.Need-overflow-mul-result-2
 mul-result-2 c = fit c (vw 5 7) tt tt
 
 sub-result : tie.Need-overflow-sub-result
-sub-result c = fit c minor-x tt tt
+sub-result c = fit c minor_x tt tt
 
 mul-result-3 : tie.Need-overflow-mul-result-3
-mul-result-3 c = fit c (times (arg 0) minor-x) tt tt
+mul-result-3 c = fit c (times (arg 0) minor_x) tt tt
 
 mul-result-4 : tie.Need-overflow-mul-result-4
 mul-result-4 c = fit c (vw 3 8) tt tt
@@ -80,10 +80,10 @@ mul-result-5 : tie.Need-overflow-mul-result-5
 mul-result-5 c = fit c (vw 5 6) tt tt
 
 sub-result-2 : tie.Need-overflow-sub-result-2
-sub-result-2 c = fit c minor-y tt tt
+sub-result-2 c = fit c minor_y tt tt
 
 mul-result-6 : tie.Need-overflow-mul-result-6
-mul-result-6 c = fit c (times (arg 1) minor-y) tt tt
+mul-result-6 c = fit c (times (arg 1) minor_y) tt tt
 
 sub-result-3 : tie.Need-overflow-sub-result-3
 sub-result-3 c = fit c two tt tt
@@ -95,10 +95,10 @@ mul-result-8 : tie.Need-overflow-mul-result-8
 mul-result-8 c = fit c (vw 4 6) tt tt
 
 sub-result-4 : tie.Need-overflow-sub-result-4
-sub-result-4 c = fit c minor-z tt tt
+sub-result-4 c = fit c minor_z tt tt
 
 mul-result-9 : tie.Need-overflow-mul-result-9
-mul-result-9 c = fit c (times (arg 2) minor-z) tt tt
+mul-result-9 c = fit c (times (arg 2) minor_z) tt tt
 
 add-result : tie.Need-overflow-add-result
 add-result c = fit c three tt tt

@@ -4,8 +4,8 @@ use Prim.Native.Nat.{◌+◌}
 use mir.Syntax.{w64}
 use mir.Val.{of_z}
 use Rattle.foundation.specs.Polynomial.{integers}
-use Rattle.foundation.specs.Held.{Rep, answered, add, add-fits}
-use Rattle.definitions.specs.Jacobian.{nodesOf}
+use Rattle.foundation.specs.Held.{Rep, answered, add, add_fits}
+use Rattle.definitions.specs.Jacobian.{nodes_of}
 use Rattle.definitions.specs.Coefficients.{edge}
 use Rattle.element_vectors.specs.Widened.{widest}
 use Rattle.element_vectors.proofs.middle.Statement.{statement}
@@ -15,10 +15,10 @@ module _ (c : tie.After-difference2) where
   abbrev s : tie.Start
   s = c.before.before
 
-  first : Rep (of_z w64 c.before.difference.result) (edge integers (nodesOf s.args.p.now) s.args.a s.args.b s.args.e) (widest + widest)
+  first : Rep (of_z w64 c.before.difference.result) (edge integers (nodes_of s.args.p.now) s.args.a s.args.b s.args.e) (widest + widest)
   first = answered (widest + widest) c.before.difference.ensures.0 c.before.difference.ensures.1 tt
 
-  second : Rep (of_z w64 c.difference2.result) (edge integers (nodesOf s.args.p.now) s.args.a s.args.c s.args.e) (widest + widest)
+  second : Rep (of_z w64 c.difference2.result) (edge integers (nodes_of s.args.p.now) s.args.a s.args.c s.args.e) (widest + widest)
   second = answered (widest + widest) c.difference2.ensures.0 c.difference2.ensures.1 tt
 
 difference-requires : tie.Need-difference-requires
@@ -28,7 +28,7 @@ difference-requires-2 : tie.Need-difference-requires-2
 difference-requires-2 c κs = search rules
 
 add-result : tie.Need-overflow-add-result
-add-result c = add-fits (first c) (second c) tt
+add-result c = add_fits (first c) (second c) tt
 
 returns : tie.Need-returns
 returns c = (add (first c) (second c) tt).value

@@ -8,29 +8,29 @@ use Rattle.definitions.specs.Subdivision.{halve}
 use Rattle.definitions.specs.Eighths.{Eighth}
 use Rattle.definitions.specs.TwoWords.{low_word, high_word}
 use Rattle.expansion_theory.specs.Control.{Cuttable}
-use Rattle.search_theory.specs.Children.{cut-whole, cut-half, cut-quarter}
-use Rattle.search_theory.specs.Eighths.{eighth-made}
-use Rattle.wrapping_theory.specs.Words.{AreWords, low-word-is, high-word-is}
+use Rattle.search_theory.specs.Children.{cut_whole, cut_half, cut_quarter}
+use Rattle.search_theory.specs.Eighths.{eighth_made}
+use Rattle.wrapping_theory.specs.Words.{AreWords, low_word_is, high_word_is}
 use Rattle.wide_array.specs.Values.{values}
 use Rattle.wide_array.specs.Word.{largest}
 use Rattle.inner_exports.proofs.inner_wide_eighth.Statement.{statement}
 use Rattle.inner_exports.proofs.inner_wide_eighth.Tie as tie
 
 half-at-requires : tie.Need-half-at-requires
-half-at-requires c κs = let s = c.before in ((cut-whole largest (values s.args.g.now) s.requires.0, omega arith, refl), λ e. absurd (true≢false e))
+half-at-requires c κs = let s = c.before in ((cut_whole largest (values s.args.g.now) s.requires.0, omega arith, refl), λ e. absurd (true≢false e))
 
 half-at-requires-2 : tie.Need-half-at-requires-2
-half-at-requires-2 c κs = let s = c.before.before.before.before in ((subst (Cuttable largest) (sym c.before.before.half_at.ensures.0) (cut-half largest (values s.args.g.now) s.requires.0 s.args.k), omega arith, refl), λ e. absurd (true≢false e))
+half-at-requires-2 c κs = let s = c.before.before.before.before in ((subst (Cuttable largest) (sym c.before.before.half_at.ensures.0) (cut_half largest (values s.args.g.now) s.requires.0 s.args.k), omega arith, refl), λ e. absurd (true≢false e))
 
 eighth-requires : tie.Need-eighth-requires
 eighth-requires c κs = let s = c.before.before.before.before.before.before.before in let g = values s.args.g.now in let k = s.args.k in
-    (subst (Cuttable largest) (sym (c.before.before.half-at2.ensures.0 ∙ ap (halve 1 (side 1 k)) c.before.before.before.before.before.half_at.ensures.0)) (cut-quarter largest g s.requires.0 k), s.requires.2)
+    (subst (Cuttable largest) (sym (c.before.before.half-at2.ensures.0 ∙ ap (halve 1 (side 1 k)) c.before.before.before.before.before.half_at.ensures.0)) (cut_quarter largest g s.requires.0 k), s.requires.2)
 
 returns : tie.Need-returns
 returns c = let s = c.before.before.before.before.before.before.before.before.before.before in let g = values s.args.g.now in let k = s.args.k in let child = c.before.before.eighth in let least = child.result.value in
-    let answer = child.ensures.0 ∙ eighth-made g k _ (c.before.before.before.before.before.half-at2.ensures.0 ∙ ap (halve 1 (side 1 k)) c.before.before.before.before.before.before.before.before.half_at.ensures.0) in
-    let words : AreWords least.low least.high = record { low-word = omega arith; high-word = omega arith } in
-    ((ap (λ (e : Eighth). e.control) answer, child.ensures.1), λ i. (sym (low-word-is least.low least.high words) ∙ ap (λ (e : Eighth). low_word e.least) answer) i ∷ (sym (high-word-is least.low least.high words) ∙ ap (λ (e : Eighth). high_word e.least) answer) i ∷ ap (λ (e : Eighth). e.number) answer i ∷ [])
+    let answer = child.ensures.0 ∙ eighth_made g k _ (c.before.before.before.before.before.half-at2.ensures.0 ∙ ap (halve 1 (side 1 k)) c.before.before.before.before.before.before.before.before.half_at.ensures.0) in
+    let words : AreWords least.low least.high = record { low_word_fits = omega arith; high_word_fits = omega arith } in
+    ((ap (λ (e : Eighth). e.control) answer, child.ensures.1), λ i. (sym (low_word_is least.low least.high words) ∙ ap (λ (e : Eighth). low_word e.least) answer) i ∷ (sym (high_word_is least.low least.high words) ∙ ap (λ (e : Eighth). high_word e.least) answer) i ∷ ap (λ (e : Eighth). e.number) answer i ∷ [])
 
 pub inner-wide-eighth-spec : {M : Type 1} → statement M
 inner-wide-eighth-spec =

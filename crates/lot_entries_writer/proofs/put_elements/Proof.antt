@@ -4,14 +4,14 @@ use Prim.Native.Nat.{◌-◌, ◌%◌, ◌≤◌}
 use native.Mathlib.Omega.{arith}
 use borrow.Author.Rules.{rules}
 use lib.ListN.{length, drop}
-use Rattle.lot_format.specs.Format.{elementEntries}
-use Rattle.lot_entries_writer.proofs.Runs.{elements-next, elements-over, lent_length}
-use Rattle.bytes_output.specs.Progress.{Progress, laid_none, same-space, part-fits, laid_more, laid-all}
+use Rattle.lot_format.specs.Format.{element_entries}
+use Rattle.lot_entries_writer.proofs.Runs.{elements_next, elements_over, lent_length}
+use Rattle.bytes_output.specs.Progress.{Progress, laid_none, same_space, part_fits, laid_more, laid_all}
 use Rattle.lot_entries_writer.proofs.put_elements.Statement.{statement}
 use Rattle.lot_entries_writer.proofs.put_elements.Tie as tie
 
 abbrev invariant-loop : tie.invariant-loop
-invariant-loop out₀ at elements next₀ k₀ out next k = (k ≤ length elements) × (k % 8 ≡ 0) × Progress at (elementEntries elements) out₀ (elementEntries (drop k elements)) out next
+invariant-loop out₀ at elements next₀ k₀ out next k = (k ≤ length elements) × (k % 8 ≡ 0) × Progress at (element_entries elements) out₀ (element_entries (drop k elements)) out next
 
 abbrev decreases-loop : tie.decreases-loop
 decreases-loop out₀ at elements next₀ k₀ out next k = length elements - k
@@ -38,7 +38,7 @@ put-element-requires : tie.Need-put-element-requires invariant-loop decreases-lo
 put-element-requires c κs =
     let s = c.before.before.before.before.before.before in
     let l = c.before.before.before.loop in
-    (lent_length s.args.elements.now l.k 8 (omega arith), part-fits l.invariant.2 (elements-next s.args.elements.now l.k (omega arith)))
+    (lent_length s.args.elements.now l.k 8 (omega arith), part_fits l.invariant.2 (elements_next s.args.elements.now l.k (omega arith)))
 
 loop-less : tie.Need-loop-smaller invariant-loop decreases-loop
 loop-less c = search rules
@@ -47,16 +47,16 @@ loop-again : tie.Need-loop-preserved invariant-loop decreases-loop
 loop-again c =
     let s = c.before.before.before.before.before.before.before.before.before in
     let l = c.before.before.before.before.before.before.loop in
-    (omega arith, omega arith, laid_more l.invariant.2 (elements-next s.args.elements.now l.k (omega arith)) c.before.before.put-element.ensures)
+    (omega arith, omega arith, laid_more l.invariant.2 (elements_next s.args.elements.now l.k (omega arith)) c.before.before.put-element.ensures)
 
 same_length : tie.Need-same-length invariant-loop decreases-loop
-same_length c = same-space c.before.loop.invariant.2
+same_length c = same_space c.before.loop.invariant.2
 
 returns : tie.Need-returns invariant-loop decreases-loop
 returns c =
     let s = c.before.before.before.before in
     let l = c.before.loop in
-    laid-all l.invariant.2 (elements-over s.args.elements.now l.k (omega arith))
+    laid_all l.invariant.2 (elements_over s.args.elements.now l.k (omega arith))
 
 pub put-elements-spec : {M : Type 1} → statement M
 put-elements-spec =

@@ -3,16 +3,16 @@ use Prim.Native.Nat.{◌-◌, ◌≤◌}
 use native.Mathlib.Omega.{arith}
 use borrow.Author.Rules.{rules}
 use lib.ListN.{length}
-use Rattle.lot_format.specs.Format.{groupedEntries}
+use Rattle.lot_format.specs.Format.{grouped_entries}
 use Rattle.lot_format.specs.Runs.{groups_of}
-use Rattle.bytes_output.specs.Progress.{Progress, laid_none, same-space, part-fits, laid_more, laid-last}
-use Rattle.lot_entries_writer.proofs.Among.{Among, leftAmong, among-start, last-eights, last-next, elements-from, elements-to, names-to, part-eights, name-short, among_next, group-next}
+use Rattle.bytes_output.specs.Progress.{Progress, laid_none, same_space, part_fits, laid_more, laid_last}
+use Rattle.lot_entries_writer.proofs.Among.{Among, left_among, among_start, last_eights, last_next, elements_from, elements_to, names_to, part_eights, name_short, among_next, group-next}
 use Rattle.lot_entries_writer.proofs.put_grouped.Statement.{statement}
 use Rattle.lot_entries_writer.proofs.put_grouped.Tie as tie
 
 abbrev invariant-loop : tie.invariant-loop
 invariant-loop out₀ at elements names lengths offsets next₀ done₀ named₀ k₀ out next done named k =
-    (k ≤ length lengths) × Among elements names lengths offsets k done named × Progress at (groupedEntries 0 (groups_of names lengths offsets) elements) out₀ (leftAmong elements names lengths offsets k done named) out next
+    (k ≤ length lengths) × Among elements names lengths offsets k done named × Progress at (grouped_entries 0 (groups_of names lengths offsets) elements) out₀ (left_among elements names lengths offsets k done named) out next
 
 abbrev decreases-loop : tie.decreases-loop
 decreases-loop out₀ at elements names lengths offsets next₀ done₀ named₀ k₀ out next done named k = length lengths - k
@@ -20,7 +20,7 @@ decreases-loop out₀ at elements names lengths offsets next₀ done₀ named₀
 loop-holds : tie.Need-loop-init invariant-loop decreases-loop
 loop-holds c =
     let s = c.before.before.before.before.before in
-    (omega arith, among-start s.requires.0, laid_none s.requires.1)
+    (omega arith, among_start s.requires.0, laid_none s.requires.1)
 
 mul-end : tie.Need-overflow-mul-end invariant-loop decreases-loop
 mul-end c = search rules
@@ -37,7 +37,7 @@ mul-end-2 : tie.Need-overflow-mul-end-2 invariant-loop decreases-loop
 mul-end-2 c =
     let s = c.before.before.before.before.before.before.before.before in
     let l = c.before.before.loop in
-    omega (arith, elements-to s.requires.0 l.invariant.1 (omega arith))
+    omega (arith, elements_to s.requires.0 l.invariant.1 (omega arith))
 
 mul-name-end : tie.Need-overflow-mul-name-end invariant-loop decreases-loop
 mul-name-end c = search rules
@@ -52,7 +52,7 @@ add-name-end : tie.Need-overflow-add-name-end invariant-loop decreases-loop
 add-name-end c =
     let s = c.before.before.before.before.before.before.before.before.before in
     let l = c.before.before.before.loop in
-    omega (arith, names-to s.requires.0 l.invariant.1 (omega arith))
+    omega (arith, names_to s.requires.0 l.invariant.1 (omega arith))
 
 mul-put-group : tie.Need-overflow-mul-put-group invariant-loop decreases-loop
 mul-put-group c =
@@ -63,19 +63,19 @@ sub-put-group : tie.Need-overflow-sub-put-group invariant-loop decreases-loop
 sub-put-group c =
     let s = c.before.before.before.before.before.before.before.before.before.before in
     let l = c.before.before.before.before.loop in
-    elements-from s.requires.0 l.invariant.1 (omega arith)
+    elements_from s.requires.0 l.invariant.1 (omega arith)
 
 part-put-group-start : tie.Need-slice-bounds-put-group-start invariant-loop decreases-loop
 part-put-group-start c =
     let s = c.before.before.before.before.before.before.before.before.before.before in
     let l = c.before.before.before.before.loop in
-    omega (arith, elements-from s.requires.0 l.invariant.1 (omega arith), elements-to s.requires.0 l.invariant.1 (omega arith))
+    omega (arith, elements_from s.requires.0 l.invariant.1 (omega arith), elements_to s.requires.0 l.invariant.1 (omega arith))
 
 part-put-group-end : tie.Need-slice-bounds-put-group-end invariant-loop decreases-loop
 part-put-group-end c =
     let s = c.before.before.before.before.before.before.before.before.before.before in
     let l = c.before.before.before.before.loop in
-    omega (arith, elements-to s.requires.0 l.invariant.1 (omega arith))
+    omega (arith, elements_to s.requires.0 l.invariant.1 (omega arith))
 
 sub-put-group-2 : tie.Need-overflow-sub-put-group-2 invariant-loop decreases-loop
 sub-put-group-2 c = search rules
@@ -84,19 +84,19 @@ part-put-group-start-2 : tie.Need-slice-bounds-put-group-start-2 invariant-loop 
 part-put-group-start-2 c =
     let s = c.before.before.before.before.before.before.before.before.before.before.before in
     let l = c.before.before.before.before.before.loop in
-    omega (arith, names-to s.requires.0 l.invariant.1 (omega arith))
+    omega (arith, names_to s.requires.0 l.invariant.1 (omega arith))
 
 part-put-group-end-2 : tie.Need-slice-bounds-put-group-end-2 invariant-loop decreases-loop
 part-put-group-end-2 c =
     let s = c.before.before.before.before.before.before.before.before.before.before.before in
     let l = c.before.before.before.before.before.loop in
-    omega (arith, names-to s.requires.0 l.invariant.1 (omega arith))
+    omega (arith, names_to s.requires.0 l.invariant.1 (omega arith))
 
 put-group-requires : tie.Need-put-group-requires invariant-loop decreases-loop
 put-group-requires c κs =
     let s = c.before.before.before.before.before.before.before.before.before.before.before.before in
     let l = c.before.before.before.before.before.before.loop in
-    (part-eights s.requires.0 l.invariant.1 (omega arith), name-short s.requires.0 l.invariant.1 (omega arith), part-fits l.invariant.2 (group-next s.requires.0 l.invariant.1 (omega arith)))
+    (part_eights s.requires.0 l.invariant.1 (omega arith), name_short s.requires.0 l.invariant.1 (omega arith), part_fits l.invariant.2 (group-next s.requires.0 l.invariant.1 (omega arith)))
 
 add-k : tie.Need-overflow-add-k invariant-loop decreases-loop
 add-k c = search rules
@@ -130,19 +130,19 @@ put-elements-requires : tie.Need-put-elements-requires invariant-loop decreases-
 put-elements-requires c κs =
     let s = c.before.before.before.before.before.before.before.before.before in
     let l = c.before.before.before.loop in
-    (last-eights s.requires.0 l.invariant.1, part-fits l.invariant.2 (last-next s.requires.0 l.invariant.1 (omega arith)))
+    (last_eights s.requires.0 l.invariant.1, part_fits l.invariant.2 (last_next s.requires.0 l.invariant.1 (omega arith)))
 
 same_length : tie.Need-same-length invariant-loop decreases-loop
 same_length c =
     let s = c.before.before.before.before.before.before.before.before.before.before.before.before in
     let l = c.before.before.before.before.before.before.loop in
-    same-space (laid_more l.invariant.2 (last-next s.requires.0 l.invariant.1 (omega arith)) c.before.before.put-elements.ensures)
+    same_space (laid_more l.invariant.2 (last_next s.requires.0 l.invariant.1 (omega arith)) c.before.before.put-elements.ensures)
 
 returns : tie.Need-returns invariant-loop decreases-loop
 returns c =
     let s = c.before.before.before.before.before.before.before.before.before.before.before.before in
     let l = c.before.before.before.before.before.before.loop in
-    laid-last l.invariant.2 (last-next s.requires.0 l.invariant.1 (omega arith)) c.before.before.put-elements.ensures
+    laid_last l.invariant.2 (last_next s.requires.0 l.invariant.1 (omega arith)) c.before.before.put-elements.ensures
 
 pub put-grouped-spec : {M : Type 1} → statement M
 put-grouped-spec =

@@ -4,14 +4,14 @@ use Prim.Native.Nat.{◌-◌, ◌%◌, ◌≤◌}
 use native.Mathlib.Omega.{arith}
 use borrow.Author.Rules.{rules}
 use lib.ListN.{length, drop}
-use Rattle.lot_format.specs.Format.{nodeEntries}
-use Rattle.lot_entries_writer.proofs.Runs.{nodes-next, nodes-over, lent_length}
-use Rattle.bytes_output.specs.Progress.{Progress, laid_none, same-space, part-fits, laid_more, laid-all}
+use Rattle.lot_format.specs.Format.{node_entries}
+use Rattle.lot_entries_writer.proofs.Runs.{nodes_next, nodes_over, lent_length}
+use Rattle.bytes_output.specs.Progress.{Progress, laid_none, same_space, part_fits, laid_more, laid_all}
 use Rattle.lot_entries_writer.proofs.put_nodes.Statement.{statement}
 use Rattle.lot_entries_writer.proofs.put_nodes.Tie as tie
 
 abbrev invariant-loop : tie.invariant-loop
-invariant-loop out₀ at nodes next₀ k₀ out next k = (k ≤ length nodes) × (k % 3 ≡ 0) × Progress at (nodeEntries nodes) out₀ (nodeEntries (drop k nodes)) out next
+invariant-loop out₀ at nodes next₀ k₀ out next k = (k ≤ length nodes) × (k % 3 ≡ 0) × Progress at (node_entries nodes) out₀ (node_entries (drop k nodes)) out next
 
 abbrev decreases-loop : tie.decreases-loop
 decreases-loop out₀ at nodes next₀ k₀ out next k = length nodes - k
@@ -38,7 +38,7 @@ put-node-requires : tie.Need-put-node-requires invariant-loop decreases-loop
 put-node-requires c κs =
     let s = c.before.before.before.before.before in
     let l = c.before.before.before.loop in
-    (lent_length s.args.nodes.now l.k 3 (omega arith), part-fits l.invariant.2 (nodes-next s.args.nodes.now l.k (omega arith)))
+    (lent_length s.args.nodes.now l.k 3 (omega arith), part_fits l.invariant.2 (nodes_next s.args.nodes.now l.k (omega arith)))
 
 loop-less : tie.Need-loop-smaller invariant-loop decreases-loop
 loop-less c = search rules
@@ -47,16 +47,16 @@ loop-again : tie.Need-loop-preserved invariant-loop decreases-loop
 loop-again c =
     let s = c.before.before.before.before.before.before.before.before in
     let l = c.before.before.before.before.before.before.loop in
-    (omega arith, omega arith, laid_more l.invariant.2 (nodes-next s.args.nodes.now l.k (omega arith)) c.before.before.put-node.ensures)
+    (omega arith, omega arith, laid_more l.invariant.2 (nodes_next s.args.nodes.now l.k (omega arith)) c.before.before.put-node.ensures)
 
 same_length : tie.Need-same-length invariant-loop decreases-loop
-same_length c = same-space c.before.loop.invariant.2
+same_length c = same_space c.before.loop.invariant.2
 
 returns : tie.Need-returns invariant-loop decreases-loop
 returns c =
     let s = c.before.before.before in
     let l = c.before.loop in
-    laid-all l.invariant.2 (nodes-over s.args.nodes.now l.k (omega arith))
+    laid_all l.invariant.2 (nodes_over s.args.nodes.now l.k (omega arith))
 
 pub put-nodes-spec : {M : Type 1} → statement M
 put-nodes-spec =

@@ -5,9 +5,9 @@ use native.Mathlib.Omega.{arith}
 use borrow.Author.Rules.{rules}
 use lib.ListN.{length, length-set, take, drop}
 use lib.Seq.{paste, paste-zero, drop-drop}
-use Rattle.foundation.specs.Laid.{paste-next}
+use Rattle.foundation.specs.Laid.{paste_next}
 use Rattle.lot_format.specs.Numbers.{number, unsigneds}
-use Rattle.lot_entry_hand_out.proofs.Laws.{getD-unsigneds}
+use Rattle.lot_entry_hand_out.proofs.Laws.{get_d_unsigneds}
 use Rattle.lot_entry_hand_out.proofs.put_element.Statement.{statement}
 use Rattle.lot_entry_hand_out.proofs.put_element.Tie as tie
 
@@ -51,9 +51,9 @@ loop-again c =
     let words = unsigneds 8 (drop s.args.at s.args.file.now) in
     let far : s.args.n + k < length s.args.elements.now = omega arith in
     let near : k < length words = omega arith in
-    let word = c.word_at.ensures ∙ ap (λ l. number (take 4 l)) (sym (drop-drop (4 * k) s.args.at s.args.file.now)) ∙ sym (getD-unsigneds 8 k (drop s.args.at s.args.file.now) near) in (
+    let word = c.word_at.ensures ∙ ap (λ l. number (take 4 l)) (sym (drop-drop (4 * k) s.args.at s.args.file.now)) ∙ sym (get_d_unsigneds 8 k (drop s.args.at s.args.file.now) near) in (
       omega arith,
-      paste-next s.args.elements.now c.before.before.loop.elements words s.args.n k c.word_at.result 0 far near c.before.before.loop.invariant.1 word,
+      paste_next s.args.elements.now c.before.before.loop.elements words s.args.n k c.word_at.result 0 far near c.before.before.loop.invariant.1 word,
       simp length-set c.before.before.loop.invariant.2,
     )
 

@@ -5,7 +5,7 @@ use native.Mathlib.Omega.{arith}
 use borrow.Author.Rules.{rules}
 use lib.ListN.{length, length-set, take, drop, length-drop}
 use lib.Seq.{paste, paste-zero, get_or-take, get_or-drop, length-take-le}
-use Rattle.foundation.specs.Laid.{paste-next, paste_all}
+use Rattle.foundation.specs.Laid.{paste_next, paste_all}
 use Rattle.lot_entry_hand_out.proofs.put_name.Statement.{statement}
 use Rattle.lot_entry_hand_out.proofs.put_name.Tie as tie
 
@@ -44,7 +44,7 @@ loop-again c =
     let name = take s.args.len rest in
     let long : length name ≡ s.args.len = length-take-le s.args.len rest (simp length-drop (omega arith)) in
     let byte = sym (get_or-take s.args.len rest k 0 (omega arith) ∙ get_or-drop s.args.at s.args.file.now k 0) in
-    (omega arith, paste-next s.args.names.now c.before.before.loop.names name s.args.n k _ 0 (omega arith) (omega arith) c.before.before.loop.invariant.1 byte, simp length-set c.before.before.loop.invariant.2)
+    (omega arith, paste_next s.args.names.now c.before.before.loop.names name s.args.n k _ 0 (omega arith) (omega arith) c.before.before.loop.invariant.1 byte, simp length-set c.before.before.loop.invariant.2)
 
 same_length : tie.Need-same-length invariant-loop decreases-loop
 same_length c = c.before.loop.invariant.2

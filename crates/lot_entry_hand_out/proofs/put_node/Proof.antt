@@ -8,9 +8,9 @@ use lib.Seq.{paste, paste-zero, drop-drop}
 use lib.IntN.{pos}
 use mir.Syntax.{w32}
 use mir.ValLaws.{to_z-of_z}
-use Rattle.foundation.specs.Laid.{paste-next}
+use Rattle.foundation.specs.Laid.{paste_next}
 use Rattle.lot_format.specs.Numbers.{number, signed, signeds}
-use Rattle.lot_entry_hand_out.proofs.Laws.{getD-signeds}
+use Rattle.lot_entry_hand_out.proofs.Laws.{get_d_signeds}
 use Rattle.lot_entry_hand_out.proofs.put_node.Statement.{statement}
 use Rattle.lot_entry_hand_out.proofs.put_node.Tie as tie
 
@@ -58,9 +58,9 @@ loop-again c =
     let far : s.args.n + k < length s.args.nodes.now = omega arith in
     let near : k < length words = omega arith in
     let bits = c.before.word_at.ensures ∙ ap (λ l. number (take 4 l)) (sym (drop-drop (4 * k) s.args.at s.args.file.now)) in
-    let word = to_z-of_z w32 c.signed_word.result (record { sfits = c.signed_word.type-inv }) ∙ c.signed_word.ensures ∙ ap signed bits ∙ sym (getD-signeds 3 k (drop s.args.at s.args.file.now) near) in (
+    let word = to_z-of_z w32 c.signed_word.result (record { sfits = c.signed_word.type-inv }) ∙ c.signed_word.ensures ∙ ap signed bits ∙ sym (get_d_signeds 3 k (drop s.args.at s.args.file.now) near) in (
       omega arith,
-      paste-next s.args.nodes.now c.before.before.before.loop.nodes words s.args.n k _ (pos 0) far near c.before.before.before.loop.invariant.1 word,
+      paste_next s.args.nodes.now c.before.before.before.loop.nodes words s.args.n k _ (pos 0) far near c.before.before.before.loop.invariant.1 word,
       simp length-set c.before.before.before.loop.invariant.2,
     )
 

@@ -4,12 +4,12 @@ use Prim.Native.Nat.{◌+◌, ◌-◌, ◌≤◌}
 use native.Mathlib.Omega.{arith}
 use borrow.Author.Rules.{rules}
 use lib.ListN.{length, drop, length-drop}
-use Rattle.lot_format.specs.Format.{lotFile}
-use Rattle.lot_format.specs.Reading.{bodyFault}
-use Rattle.lot_format.specs.Steps.{body-cut, body-wrong, body-right}
-use Rattle.lot_marks.specs.Meaning.{markHeld}
-use Rattle.lot_entry_reader.specs.Meaning.{faultHeld}
-use Rattle.lot_entry_reader.proofs.Laws.{length_rest, part-is-body}
+use Rattle.lot_format.specs.Format.{lot_file}
+use Rattle.lot_format.specs.Reading.{body_fault}
+use Rattle.lot_format.specs.Steps.{body_cut, body_wrong, body_right}
+use Rattle.lot_marks.specs.Meaning.{mark_held}
+use Rattle.lot_entry_reader.specs.Meaning.{fault_held}
+use Rattle.lot_entry_reader.proofs.Laws.{length_rest, part_is_body}
 use Rattle.lot_entry_reader.proofs.body_at.Statement.{statement}
 use Rattle.lot_entry_reader.proofs.body_at.Tie as tie
 
@@ -23,7 +23,7 @@ returns : tie.Need-returns
 returns c =
     let s = c.before.before in
     let h : length (drop 4 (drop s.args.at s.args.file.now)) ≡ length s.args.file.now - (s.args.at + 4) = length_rest s.args.file.now s.args.at 4 in
-    (sym (body-cut lotFile _ _ _ _ (omega arith)), tt)
+    (sym (body_cut lot_file _ _ _ _ (omega arith)), tt)
 
 add-body-fault : tie.Need-overflow-add-body-fault
 add-body-fault c = search rules
@@ -52,8 +52,8 @@ returns-2 c =
     let xs = s.args.file.now in
     let left = length_rest xs s.args.at 4 in
     let room : s.args.len ≤ length (drop 4 (drop s.args.at xs)) = omega (arith, left) in
-    let right = sym (ap (bodyFault lotFile (markHeld s.args.mark) s.args.elements) (part-is-body xs s.args.at s.args.len)) ∙ sym c.before.before.body-fault.ensures ∙ ap faultHeld c.enum_told.given.1 in
-    (sym (body-right lotFile _ _ _ _ room right), omega (arith, length-drop s.args.at xs))
+    let right = sym (ap (body_fault lot_file (mark_held s.args.mark) s.args.elements) (part_is_body xs s.args.at s.args.len)) ∙ sym c.before.before.body-fault.ensures ∙ ap fault_held c.enum_told.given.1 in
+    (sym (body_right lot_file _ _ _ _ room right), omega (arith, length-drop s.args.at xs))
 
 returns-3 : tie.Need-returns-3
 returns-3 c =
@@ -61,8 +61,8 @@ returns-3 c =
     let xs = s.args.file.now in
     let left = length_rest xs s.args.at 4 in
     let room : s.args.len ≤ length (drop 4 (drop s.args.at xs)) = omega (arith, left) in
-    let wrong = sym (ap (bodyFault lotFile (markHeld s.args.mark) s.args.elements) (part-is-body xs s.args.at s.args.len)) ∙ sym c.before.before.before.body-fault.ensures ∙ ap faultHeld c.before.body.given.1 in
-    (sym (body-wrong lotFile _ _ _ _ _ room wrong), tt)
+    let wrong = sym (ap (body_fault lot_file (mark_held s.args.mark) s.args.elements) (part_is_body xs s.args.at s.args.len)) ∙ sym c.before.before.before.body-fault.ensures ∙ ap fault_held c.before.body.given.1 in
+    (sym (body_wrong lot_file _ _ _ _ _ room wrong), tt)
 
 pub body-at-spec : {M : Type 1} → statement M
 body-at-spec =

@@ -1,8 +1,8 @@
 -- `body_fault` meets its contract: by the cases of the mark, and each branch by its test. Assumes nothing.
 use borrow.Author.Rules.{rules}
 use borrow.Author.Tests.{lt-ltb, le-ltb}
-use Rattle.lot_format.specs.Format.{lotFile}
-use Rattle.lot_format.specs.Reading.{bodyFault}
+use Rattle.lot_format.specs.Format.{lot_file}
+use Rattle.lot_format.specs.Reading.{body_fault}
 use Rattle.lot_entry_reader.proofs.body_fault.Statement.{statement}
 use Rattle.lot_entry_reader.proofs.body_fault.Tie as tie
 
@@ -34,10 +34,10 @@ returns-2 : tie.Need-returns-2
 returns-2 c = search rules
 
 returns-3 : tie.Need-returns-3
-returns-3 c = rw (c.before.enum-told3.given.1, lt-ltb _ lotFile.elements c.if1.true, bodyFault)
+returns-3 c = rw (c.before.enum-told3.given.1, lt-ltb _ lot_file.elements c.if1.true, body_fault)
 
 returns-4 : tie.Need-returns-4
-returns-4 c = rw (c.before.enum-told3.given.1, le-ltb _ lotFile.elements c.if1.false, bodyFault)
+returns-4 c = rw (c.before.enum-told3.given.1, le-ltb _ lot_file.elements c.if1.false, body_fault)
 
 returns-5 : tie.Need-returns-5
 returns-5 c = search rules

@@ -4,8 +4,8 @@ use Prim.Native.Nat.{◌+◌, ◌/◌, ◌%◌}
 use native.Mathlib.Omega.{arith}
 use borrow.Author.Rules.{rules}
 use lib.ListN.{get_or}
-use Rattle.lot_format.specs.NumberLaws.{number-two}
-use Rattle.lot_entry_reader.proofs.Laws.{mark-drop}
+use Rattle.lot_format.specs.NumberLaws.{number_two}
+use Rattle.lot_entry_reader.proofs.Laws.{mark_drop}
 use Rattle.lot_entry_reader.proofs.mark_at.Statement.{statement}
 use Rattle.lot_entry_reader.proofs.mark_at.Tie as tie
 
@@ -23,10 +23,10 @@ returns c =
     let x = c.before.short-at.result in
     let low = c.before.before.shared-slice-known.given at in
     let high = c.before.before.shared-slice-known.given (at + 1) in
-    let two = number-two file at (omega arith) in
+    let two = number_two file at (omega arith) in
     let first : x % 256 ≡ get_or file at 0 = omega (arith, c.before.short-at.ensures.0, two, low, high) in
     let second : x / 256 ≡ get_or file (at + 1) 0 = omega (arith, c.before.short-at.ensures.0, two, low, high) in
-    c.mark_of.ensures ∙ mark-drop file at x first second
+    c.mark_of.ensures ∙ mark_drop file at x first second
 
 pub mark-at-spec : {M : Type 1} → statement M
 mark-at-spec = tie.close (tie.spec short-at-requires mark-of-requires returns)

@@ -5,13 +5,13 @@ use native.Mathlib.Omega.{arith}
 use borrow.Author.Rules.{rules}
 use borrow.Author.Tests.{not-true, not-false}
 use lib.ListN.{length, drop}
-use Rattle.lot_format.specs.Format.{nameBytes}
-use Rattle.lot_entry_reader.proofs.Laws.{name-right, name-wrong, name-over}
+use Rattle.lot_format.specs.Format.{name_bytes}
+use Rattle.lot_entry_reader.proofs.Laws.{name_right, name_wrong, name_over}
 use Rattle.lot_entry_reader.proofs.name_bytes.Statement.{statement}
 use Rattle.lot_entry_reader.proofs.name_bytes.Tie as tie
 
 abbrev invariant-loop : tie.invariant-loop
-invariant-loop name k₀ k-end k = (k ≤ length name) × (nameBytes name ≡ nameBytes (drop k name))
+invariant-loop name k₀ k-end k = (k ≤ length name) × (name_bytes name ≡ name_bytes (drop k name))
 
 abbrev decreases-loop : tie.decreases-loop
 decreases-loop name k₀ k-end k = length name - k
@@ -29,7 +29,7 @@ returns : tie.Need-returns invariant-loop decreases-loop
 returns c =
     let at = c.before.before.before.before in
     let e = not-true c.before.name-byte.result c.if1.true in
-    sym (at.loop.invariant.1 ∙ name-wrong _ at.loop.k (omega arith) (sym c.before.name-byte.ensures ∙ e))
+    sym (at.loop.invariant.1 ∙ name_wrong _ at.loop.k (omega arith) (sym c.before.name-byte.ensures ∙ e))
 
 add-k : tie.Need-overflow-add-k invariant-loop decreases-loop
 add-k c = search rules
@@ -41,10 +41,10 @@ loop-again : tie.Need-loop-preserved invariant-loop decreases-loop
 loop-again c =
     let at = c.before.before.before.before in
     let e = not-false c.before.name-byte.result c.if1.false in
-    (omega arith, at.loop.invariant.1 ∙ name-right _ at.loop.k (omega arith) (sym c.before.name-byte.ensures ∙ e))
+    (omega arith, at.loop.invariant.1 ∙ name_right _ at.loop.k (omega arith) (sym c.before.name-byte.ensures ∙ e))
 
 returns-2 : tie.Need-returns-2 invariant-loop decreases-loop
-returns-2 c = let done : c.before.loop.k ≡ length c.before.before.before.args.name.now = omega arith in sym (c.before.loop.invariant.1 ∙ name-over _ c.before.loop.k done)
+returns-2 c = let done : c.before.loop.k ≡ length c.before.before.before.args.name.now = omega arith in sym (c.before.loop.invariant.1 ∙ name_over _ c.before.loop.k done)
 
 pub name-bytes-spec : {M : Type 1} → statement M
 name-bytes-spec =

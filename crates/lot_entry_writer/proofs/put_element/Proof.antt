@@ -1,11 +1,11 @@
 -- `put_element` meets its contract. Assumes nothing.
 use native.Mathlib.Omega.{arith}
 use borrow.Author.Rules.{rules}
-use Rattle.lot_format.specs.Numbers.{unsignedBytes}
+use Rattle.lot_format.specs.Numbers.{unsigned_bytes}
 use Rattle.lot_format.specs.Format.{HX}
-use Rattle.lot_roundtrip_theory.specs.Lengths.{length-unsignedBytes}
+use Rattle.lot_roundtrip_theory.specs.Lengths.{length_unsigned_bytes}
 use Rattle.bytes_output.specs.Behind.{laid_then}
-use Rattle.lot_entry_writer.proofs.Parts.{entry-laid}
+use Rattle.lot_entry_writer.proofs.Parts.{entry_laid}
 use Rattle.lot_entry_writer.proofs.put_element.Statement.{statement}
 use Rattle.lot_entry_writer.proofs.put_element.Tie as tie
 
@@ -21,8 +21,8 @@ same_length c = search rules
 returns : tie.Need-returns
 returns c =
     let s = c.before.before.before.before.before.before.before.before.before.before in
-    let body = unsignedBytes s.args.element.now in
-    entry-laid HX s.args.at s.args.out.now body 32 (omega (arith, length-unsignedBytes s.args.element.now)) (laid_then s.args.at s.args.out.now _ body (omega arith) c.before.before.before.before.before.before.put-head.ensures c.before.before.put-unsigneds.ensures)
+    let body = unsigned_bytes s.args.element.now in
+    entry_laid HX s.args.at s.args.out.now body 32 (omega (arith, length_unsigned_bytes s.args.element.now)) (laid_then s.args.at s.args.out.now _ body (omega arith) c.before.before.before.before.before.before.put-head.ensures c.before.before.put-unsigneds.ensures)
 
 pub put-element-spec : {M : Type 1} → statement M
 put-element-spec =

@@ -5,7 +5,7 @@ use Prim.Native.Nat.{◌-◌, ◌<◌, ◌≤◌, min}
 use native.Mathlib.Omega.{arith}
 use borrow.Author.Rules.{rules}
 use lib.ListN.{get_or, length}
-use Rattle.lot_group_names.proofs.Names.{Found, found_nothing, found-taken, found_passed, found_name, found-place}
+use Rattle.lot_group_names.proofs.Names.{Found, found_nothing, found_taken, found_passed, found_name, found_place}
 use Rattle.lot_group_names.proofs.part_in_force.Statement.{statement}
 use Rattle.lot_group_names.proofs.part_in_force.Tie as tie
 
@@ -61,7 +61,7 @@ loop-again c =
     let f = l.loop.invariant.2 in (
       omega arith,
       l.loop.invariant.1,
-      ⊎_elim (λ w. rw w.1 (found-taken _ _ _ _ size.result f h cut w.0.taken)) (λ w. rw w.1 (found_passed _ _ _ _ size.result f h cut w.0.left)) c.if1.branch,
+      ⊎_elim (λ w. rw w.1 (found_taken _ _ _ _ size.result f h cut w.0.taken)) (λ w. rw w.1 (found_passed _ _ _ _ size.result f h cut w.0.left)) c.if1.branch,
     )
 
 returns : tie.Need-returns invariant-loop decreases-loop
@@ -70,7 +70,7 @@ returns c =
     let s = l.before.before.before.before.before in
     let done : min (length s.args.lengths.now) (length s.args.offsets.now) ≤ l.loop.k = omega arith in
     let f = l.loop.invariant.2 in
-    (f.whole, (found_name _ _ _ _ f done, found-place _ _ _ _ f done))
+    (f.whole, (found_name _ _ _ _ f done, found_place _ _ _ _ f done))
 
 pub part-in-force-spec : {M : Type 1} → statement M
 part-in-force-spec =

@@ -6,8 +6,8 @@ use borrow.Author.Rules.{rules}
 use borrow.Author.Tests.{ne_eqb}
 use lib.ListN.{length, drop}
 use Rattle.foundation.specs.Lists.{sum}
-use Rattle.lot_format.specs.RunLaws.{total-next}
-use Rattle.lot_groups.proofs.Tests.{eqb_same, total-over}
+use Rattle.lot_format.specs.RunLaws.{total_next}
+use Rattle.lot_groups.proofs.Tests.{eqb_same, total_over}
 use Rattle.lot_groups.proofs.add_up.Statement.{statement}
 use Rattle.lot_groups.proofs.add_up.Tie as tie
 
@@ -33,7 +33,7 @@ returns : tie.Need-returns invariant-loop decreases-loop
 returns c =
     let s = c.before.before.before.before in
     let l = c.before.before.before.loop in
-    let next = total-next s.args.lengths.now l.k (omega arith) in
+    let next = total_next s.args.lengths.now l.k (omega arith) in
     sym (ne_eqb (sum s.args.lengths.now) s.args.n (λ e. omega (arith, next, l.invariant.1)))
 
 add-k : tie.Need-overflow-add-k invariant-loop decreases-loop
@@ -46,13 +46,13 @@ loop-again : tie.Need-loop-preserved invariant-loop decreases-loop
 loop-again c =
     let s = c.before.before.before.before in
     let l = c.before.before.before.loop in
-    (omega arith, omega (arith, total-next s.args.lengths.now l.k (omega arith), l.invariant.1))
+    (omega arith, omega (arith, total_next s.args.lengths.now l.k (omega arith), l.invariant.1))
 
 returns-2 : tie.Need-returns-2 invariant-loop decreases-loop
 returns-2 c =
     let s = c.before.before in
     let l = c.before.loop in
-    let over = total-over s.args.lengths.now l.k (omega arith) in
+    let over = total_over s.args.lengths.now l.k (omega arith) in
     eqb_same l.left 0 (sum s.args.lengths.now) s.args.n (λ e. omega (arith, over, l.invariant.1)) (λ e. omega (arith, over, l.invariant.1))
 
 pub add-up-spec : {M : Type 1} → statement M

@@ -5,7 +5,7 @@ use native.Mathlib.Omega.{arith}
 use borrow.Author.Rules.{rules}
 use lib.ListN.{length, drop}
 use Rattle.lot_format.specs.Groups.{rising}
-use Rattle.lot_groups.proofs.Tests.{rising-falls, rising-passes, rising-next, rising-over}
+use Rattle.lot_groups.proofs.Tests.{rising_falls, rising_passes, rising_next, rising_over}
 use Rattle.lot_groups.proofs.rise.Statement.{statement}
 use Rattle.lot_groups.proofs.rise.Tie as tie
 
@@ -31,13 +31,13 @@ returns : tie.Need-returns invariant-loop decreases-loop
 returns c =
     let s = c.before.before.before.before in
     let l = c.before.before.before.loop in
-    sym (l.invariant.1 ∙ rising-falls s.args.offsets.now l.k l.low s.args.n (omega arith) (omega arith))
+    sym (l.invariant.1 ∙ rising_falls s.args.offsets.now l.k l.low s.args.n (omega arith) (omega arith))
 
 returns-2 : tie.Need-returns-2 invariant-loop decreases-loop
 returns-2 c =
     let s = c.before.before.before.before.before in
     let l = c.before.before.before.before.loop in
-    sym (l.invariant.1 ∙ rising-passes s.args.offsets.now l.k l.low s.args.n (omega arith) (omega arith) (omega arith))
+    sym (l.invariant.1 ∙ rising_passes s.args.offsets.now l.k l.low s.args.n (omega arith) (omega arith) (omega arith))
 
 add-k : tie.Need-overflow-add-k invariant-loop decreases-loop
 add-k c = search rules
@@ -49,13 +49,13 @@ loop-again : tie.Need-loop-preserved invariant-loop decreases-loop
 loop-again c =
     let s = c.before.before.before.before.before in
     let l = c.before.before.before.before.loop in
-    (omega arith, l.invariant.1 ∙ rising-next s.args.offsets.now l.k l.low s.args.n (omega arith) (omega arith) (omega arith))
+    (omega arith, l.invariant.1 ∙ rising_next s.args.offsets.now l.k l.low s.args.n (omega arith) (omega arith) (omega arith))
 
 returns-3 : tie.Need-returns-3 invariant-loop decreases-loop
 returns-3 c =
     let s = c.before.before in
     let l = c.before.loop in
-    sym (l.invariant.1 ∙ rising-over s.args.offsets.now l.k l.low s.args.n (omega arith))
+    sym (l.invariant.1 ∙ rising_over s.args.offsets.now l.k l.low s.args.n (omega arith))
 
 pub rise-spec : {M : Type 1} → statement M
 rise-spec =

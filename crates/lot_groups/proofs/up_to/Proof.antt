@@ -4,13 +4,13 @@ use Prim.Native.Nat.{◌-◌, ◌≤◌}
 use native.Mathlib.Omega.{arith}
 use borrow.Author.Rules.{rules}
 use lib.ListN.{length, drop}
-use Rattle.lot_format.specs.Groups.{allUpTo}
-use Rattle.lot_groups.proofs.Tests.{upTo-passes, upTo-next, upTo-over}
+use Rattle.lot_format.specs.Groups.{all_up_to}
+use Rattle.lot_groups.proofs.Tests.{up_to_passes, up_to_next, up_to_over}
 use Rattle.lot_groups.proofs.up_to.Statement.{statement}
 use Rattle.lot_groups.proofs.up_to.Tie as tie
 
 abbrev invariant-loop : tie.invariant-loop
-invariant-loop lengths n k₀ k-end k = (k ≤ length lengths) × (allUpTo n lengths ≡ allUpTo n (drop k lengths))
+invariant-loop lengths n k₀ k-end k = (k ≤ length lengths) × (all_up_to n lengths ≡ all_up_to n (drop k lengths))
 
 abbrev decreases-loop : tie.decreases-loop
 decreases-loop lengths n k₀ k-end k = length lengths - k
@@ -31,7 +31,7 @@ returns : tie.Need-returns invariant-loop decreases-loop
 returns c =
     let s = c.before.before.before.before in
     let l = c.before.before.before.loop in
-    sym (l.invariant.1 ∙ upTo-passes s.args.lengths.now l.k s.args.n (omega arith) (omega arith))
+    sym (l.invariant.1 ∙ up_to_passes s.args.lengths.now l.k s.args.n (omega arith) (omega arith))
 
 add-k : tie.Need-overflow-add-k invariant-loop decreases-loop
 add-k c = search rules
@@ -43,13 +43,13 @@ loop-again : tie.Need-loop-preserved invariant-loop decreases-loop
 loop-again c =
     let s = c.before.before.before.before in
     let l = c.before.before.before.loop in
-    (omega arith, l.invariant.1 ∙ upTo-next s.args.lengths.now l.k s.args.n (omega arith) (omega arith))
+    (omega arith, l.invariant.1 ∙ up_to_next s.args.lengths.now l.k s.args.n (omega arith) (omega arith))
 
 returns-2 : tie.Need-returns-2 invariant-loop decreases-loop
 returns-2 c =
     let s = c.before.before in
     let l = c.before.loop in
-    sym (l.invariant.1 ∙ upTo-over s.args.lengths.now l.k s.args.n (omega arith))
+    sym (l.invariant.1 ∙ up_to_over s.args.lengths.now l.k s.args.n (omega arith))
 
 pub up-to-spec : {M : Type 1} → statement M
 up-to-spec =

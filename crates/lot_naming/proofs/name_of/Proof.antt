@@ -4,16 +4,16 @@ use mathlib.Core.List.{List, [], ◌∷◌}
 use Prim.Native.Nat.{ℕ, ◌+◌}
 use native.Mathlib.Omega.{arith}
 use borrow.Author.Rules.{rules}
-use Rattle.lot_format.specs.Format.{lotFile, Group}
+use Rattle.lot_format.specs.Format.{lot_file, Group}
 use Rattle.lot_format.specs.Runs.{groups_of}
-use Rattle.lot_format.specs.Naming.{Naming, naming, nameGiven, namingNumber}
-use Rattle.lot_naming.specs.Place.{placeGiven}
-use Rattle.lot_naming.specs.Answers.{zero-named, other-nothing, other_place}
+use Rattle.lot_format.specs.Naming.{Naming, naming, name_given, naming_number}
+use Rattle.lot_naming.specs.Place.{place_given}
+use Rattle.lot_naming.specs.Answers.{zero_named, other_nothing, other_place}
 use Rattle.lot_naming.proofs.name_of.Statement.{statement}
 use Rattle.lot_naming.proofs.name_of.Tie as tie
 
 abbrev asked : tie.Start → Naming
-asked s = naming lotFile s.args.label.now s.args.names.now s.args.lengths.now s.args.offsets.now s.args.elements s.args.element
+asked s = naming lot_file s.args.label.now s.args.names.now s.args.lengths.now s.args.offsets.now s.args.elements s.args.element
 
 abbrev groupsIn : tie.Start → List Group
 groupsIn s = groups_of s.args.names.now s.args.lengths.now s.args.offsets.now
@@ -34,9 +34,9 @@ returns : tie.Need-returns
 returns c =
     let s = c.before.before.before.before.before.before.before.before in
     let number = c.before.before.before.refusal-of.ensures in
-    let other : namingNumber (asked s) ≡ 0 → ⊥ = λ z. c.before.if1.true (number ∙ z) in
+    let other : naming_number (asked s) ≡ 0 → ⊥ = λ z. c.before.if1.true (number ∙ z) in
     let front : 0 + s.args.label.ptr.1 ≡ s.args.label.ptr.1 = omega arith in
-    (sym (other-nothing (asked s) other), (ap (λ (n : ℕ). n ∷ []) number, ap (λ (k : ℕ). (s.args.label.ptr.0, k)) front ∙ sym (other_place s.args.label.ptr s.args.names.ptr (groupsIn s) s.args.element (asked s) other)))
+    (sym (other_nothing (asked s) other), (ap (λ (n : ℕ). n ∷ []) number, ap (λ (k : ℕ). (s.args.label.ptr.0, k)) front ∙ sym (other_place s.args.label.ptr s.args.names.ptr (groupsIn s) s.args.element (asked s) other)))
 
 name-of-requires : tie.Need-name-of-requires
 name-of-requires c κs = search rules
@@ -45,9 +45,9 @@ returns-2 : tie.Need-returns-2
 returns-2 c =
     let s = c.before.before.before.before.before.before.before.before in
     let number = c.before.before.before.refusal-of.ensures in
-    let answer = zero-named lotFile s.args.label.now s.args.names.now s.args.lengths.now s.args.offsets.now s.args.elements s.args.element (sym number ∙ c.before.if1.false) in (
-      c.name_of.ensures.0 ∙ sym (ap nameGiven answer),
-      (ap (λ (n : ℕ). n ∷ []) number, c.name_of.ensures.1 ∙ sym (ap (placeGiven s.args.label.ptr s.args.names.ptr (groupsIn s) s.args.element) answer)),
+    let answer = zero_named lot_file s.args.label.now s.args.names.now s.args.lengths.now s.args.offsets.now s.args.elements s.args.element (sym number ∙ c.before.if1.false) in (
+      c.name_of.ensures.0 ∙ sym (ap name_given answer),
+      (ap (λ (n : ℕ). n ∷ []) number, c.name_of.ensures.1 ∙ sym (ap (place_given s.args.label.ptr s.args.names.ptr (groupsIn s) s.args.element) answer)),
     )
 
 pub name-of-spec : {M : Type 1} → statement M

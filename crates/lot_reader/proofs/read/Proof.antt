@@ -3,14 +3,14 @@ use mathlib.Core.Path.{refl, sym, ◌∙◌, ap, subst}
 use mathlib.Core.List.{[], ◌∷◌}
 use Prim.Native.Nat.{ℕ, ◌+◌}
 use native.Mathlib.Omega.{arith}
-use Rattle.foundation.specs.Laid.{laidOver}
-use Rattle.lot_format.specs.NumberLaws.{bytes-by-place}
-use Rattle.lot_format.specs.Format.{lotFile}
+use Rattle.foundation.specs.Laid.{laid_over}
+use Rattle.lot_format.specs.NumberLaws.{bytes_by_place}
+use Rattle.lot_format.specs.Format.{lot_file}
 use Rattle.lot_format.specs.Runs.{Runs}
-use Rattle.lot_format.specs.Reading.{readInto, readingNumbers}
-use Rattle.lot_scan.specs.Meaning.{scanHeld, Few}
-use Rattle.lot_scan.specs.Scans.{scan-fails}
-use Rattle.lot_reader.proofs.Answers.{read-handable, read_same, read-numbers, read-place, label-there, label_is}
+use Rattle.lot_format.specs.Reading.{read_into, reading_numbers}
+use Rattle.lot_scan.specs.Meaning.{scan_held, Few}
+use Rattle.lot_scan.specs.Scans.{scan_fails}
+use Rattle.lot_reader.proofs.Answers.{read_handable, read_same, read_numbers, read_place, label_there, label_is}
 use borrow.Author.Rules.{rules}
 use Rattle.lot_reader.proofs.read.Statement.{statement}
 use Rattle.lot_reader.proofs.read.Tie as tie
@@ -37,7 +37,7 @@ enum-known-found-2 : tie.Need-enum-known-found-2
 enum-known-found-2 c = search rules
 
 hand-out-requires : tie.Need-hand-out-requires
-hand-out-requires c κs = read-handable _ _ _ (sym (ap scanHeld c.before.before.before.before.before.before.found2.given.1) ∙ c.before.before.before.before.before.before.before.before.scan-with-room.ensures.0)
+hand-out-requires c κs = read_handable _ _ _ (sym (ap scan_held c.before.before.before.before.before.before.found2.given.1) ∙ c.before.before.before.before.before.before.before.before.scan-with-room.ensures.0)
 
 cast-node-count : tie.Need-overflow-cast-node-count
 cast-node-count c = let few = subst Few c.before.before.before.before.before.before.before.before.before.before.before.before.before.before.before.before.before.found2.given.1 c.before.before.before.before.before.before.before.before.before.before.before.before.before.before.before.before.before.before.before.scan-with-room.ensures.1 in omega (arith, few)
@@ -61,12 +61,12 @@ part-result-start-2 : tie.Need-slice-bounds-result-start-2
 part-result-start-2 c = search rules
 
 part-result-end-2 : tie.Need-slice-bounds-result-end-2
-part-result-end-2 c = label-there _ _ _ (sym (ap scanHeld c.before.before.before.before.before.before.before.before.before.before.before.before.before.before.before.before.before.before.before.before.before.before.found2.given.1) ∙ c.before.before.before.before.before.before.before.before.before.before.before.before.before.before.before.before.before.before.before.before.before.before.before.before.scan-with-room.ensures.0) (bytes-by-place c.before.before.before.before.before.before.before.before.before.before.before.before.before.before.before.before.before.before.before.before.before.before.before.before.before.before.before.before.before.before.args.file.now (λ i. omega (arith, c.before.before.before.before.before.before.before.before.before.before.before.before.before.before.before.before.before.before.before.before.before.before.before.before.before.before.before.before.before.shared-slice-known.given i)))
+part-result-end-2 c = label_there _ _ _ (sym (ap scan_held c.before.before.before.before.before.before.before.before.before.before.before.before.before.before.before.before.before.before.before.before.before.before.found2.given.1) ∙ c.before.before.before.before.before.before.before.before.before.before.before.before.before.before.before.before.before.before.before.before.before.before.before.before.scan-with-room.ensures.0) (bytes_by_place c.before.before.before.before.before.before.before.before.before.before.before.before.before.before.before.before.before.before.before.before.before.before.before.before.before.before.before.before.before.before.args.file.now (λ i. omega (arith, c.before.before.before.before.before.before.before.before.before.before.before.before.before.before.before.before.before.before.before.before.before.before.before.before.before.before.before.before.before.shared-slice-known.given i)))
 
 returns : tie.Need-returns
-unfolding readingNumbers
+unfolding reading_numbers
 returns c =
-    let failed = scan-fails (readInto lotFile c.before.before.before.before.before.before.before.before.before.before.before.before.args.file.now c.before.before.before.before.before.before.before.before.before.before.before.before.args.nodes.now c.before.before.before.before.before.before.before.before.before.before.before.before.args.elements.now c.before.before.before.before.before.before.before.before.before.before.before.before.args.names.now c.before.before.before.before.before.before.before.before.before.before.before.before.args.lengths.now c.before.before.before.before.before.before.before.before.before.before.before.before.args.offsets.now) (sym (ap scanHeld c.before.before.before.before.found.given.1) ∙ c.before.before.before.before.before.before.scan-with-room.ensures.0) in
+    let failed = scan_fails (read_into lot_file c.before.before.before.before.before.before.before.before.before.before.before.before.args.file.now c.before.before.before.before.before.before.before.before.before.before.before.before.args.nodes.now c.before.before.before.before.before.before.before.before.before.before.before.before.args.elements.now c.before.before.before.before.before.before.before.before.before.before.before.before.args.names.now c.before.before.before.before.before.before.before.before.before.before.before.before.args.lengths.now c.before.before.before.before.before.before.before.before.before.before.before.before.args.offsets.now) (sym (ap scan_held c.before.before.before.before.found.given.1) ∙ c.before.before.before.before.before.before.scan-with-room.ensures.0) in
     rw failed (refl, (refl, (refl, (refl, (refl, (refl, (ap (λ (n : ℕ). n ∷ 0 ∷ 0 ∷ 0 ∷ 0 ∷ []) c.before.before.refusal-number.ensures, refl)))))))
 
 same_length : tie.Need-same-length
@@ -86,21 +86,21 @@ same-length-5 c = search rules
 
 returns-2 : tie.Need-returns-2
 returns-2 c =
-    let told = (sym (ap scanHeld c.before.before.before.before.before.before.before.before.before.before.before.before.before.before.before.before.before.before.before.before.before.before.before.found2.given.1) ∙ c.before.before.before.before.before.before.before.before.before.before.before.before.before.before.before.before.before.before.before.before.before.before.before.before.before.scan-with-room.ensures.0) in
+    let told = (sym (ap scan_held c.before.before.before.before.before.before.before.before.before.before.before.before.before.before.before.before.before.before.before.before.before.before.before.found2.given.1) ∙ c.before.before.before.before.before.before.before.before.before.before.before.before.before.before.before.before.before.before.before.before.before.before.before.before.before.scan-with-room.ensures.0) in
     let same = read_same _ _ _ told in
     let handed = c.before.before.before.before.before.before.before.before.before.before.before.before.before.before.before.before.hand-out.ensures in (
-      label_is _ _ _ told (bytes-by-place c.before.before.before.before.before.before.before.before.before.before.before.before.before.before.before.before.before.before.before.before.before.before.before.before.before.before.before.before.before.before.before.args.file.now (λ i. omega (arith, c.before.before.before.before.before.before.before.before.before.before.before.before.before.before.before.before.before.before.before.before.before.before.before.before.before.before.before.before.before.before.shared-slice-known.given i))),
+      label_is _ _ _ told (bytes_by_place c.before.before.before.before.before.before.before.before.before.before.before.before.before.before.before.before.before.before.before.before.before.before.before.before.before.before.before.before.before.before.before.args.file.now (λ i. omega (arith, c.before.before.before.before.before.before.before.before.before.before.before.before.before.before.before.before.before.before.before.before.before.before.before.before.before.before.before.before.before.before.shared-slice-known.given i))),
       (
-        handed.0 ∙ ap (λ (x : Runs). laidOver x.nodes c.before.before.before.before.before.before.before.before.before.before.before.before.before.before.before.before.before.before.before.before.before.before.before.before.before.before.before.before.before.before.before.args.nodes.now) same,
+        handed.0 ∙ ap (λ (x : Runs). laid_over x.nodes c.before.before.before.before.before.before.before.before.before.before.before.before.before.before.before.before.before.before.before.before.before.before.before.before.before.before.before.before.before.before.before.args.nodes.now) same,
         (
-          handed.1.0 ∙ ap (λ (x : Runs). laidOver x.elements c.before.before.before.before.before.before.before.before.before.before.before.before.before.before.before.before.before.before.before.before.before.before.before.before.before.before.before.before.before.before.before.args.elements.now) same,
+          handed.1.0 ∙ ap (λ (x : Runs). laid_over x.elements c.before.before.before.before.before.before.before.before.before.before.before.before.before.before.before.before.before.before.before.before.before.before.before.before.before.before.before.before.before.before.before.args.elements.now) same,
           (
-            handed.1.1.0 ∙ ap (λ (x : Runs). laidOver x.names c.before.before.before.before.before.before.before.before.before.before.before.before.before.before.before.before.before.before.before.before.before.before.before.before.before.before.before.before.before.before.before.args.names.now) same,
+            handed.1.1.0 ∙ ap (λ (x : Runs). laid_over x.names c.before.before.before.before.before.before.before.before.before.before.before.before.before.before.before.before.before.before.before.before.before.before.before.before.before.before.before.before.before.before.before.args.names.now) same,
             (
-              handed.1.1.1.0 ∙ ap (λ (x : Runs). laidOver x.lengths c.before.before.before.before.before.before.before.before.before.before.before.before.before.before.before.before.before.before.before.before.before.before.before.before.before.before.before.before.before.before.before.args.lengths.now) same,
+              handed.1.1.1.0 ∙ ap (λ (x : Runs). laid_over x.lengths c.before.before.before.before.before.before.before.before.before.before.before.before.before.before.before.before.before.before.before.before.before.before.before.before.before.before.before.before.before.before.before.args.lengths.now) same,
               (
-                handed.1.1.1.1 ∙ ap (λ (x : Runs). laidOver x.offsets c.before.before.before.before.before.before.before.before.before.before.before.before.before.before.before.before.before.before.before.before.before.before.before.before.before.before.before.before.before.before.before.args.offsets.now) same,
-                (read-numbers _ _ _ told, ap (λ (k : ℕ). (c.before.before.before.before.before.before.before.before.before.before.before.before.before.before.before.before.before.before.before.before.before.before.before.before.before.before.before.before.before.before.before.args.file.ptr.0, k + c.before.before.before.before.before.before.before.before.before.before.before.before.before.before.before.before.before.before.before.before.before.before.before.before.before.before.before.before.before.before.before.args.file.ptr.1)) (sym (read-place _ _ _ told))),
+                handed.1.1.1.1 ∙ ap (λ (x : Runs). laid_over x.offsets c.before.before.before.before.before.before.before.before.before.before.before.before.before.before.before.before.before.before.before.before.before.before.before.before.before.before.before.before.before.before.before.args.offsets.now) same,
+                (read_numbers _ _ _ told, ap (λ (k : ℕ). (c.before.before.before.before.before.before.before.before.before.before.before.before.before.before.before.before.before.before.before.before.before.before.before.before.before.before.before.before.before.before.before.args.file.ptr.0, k + c.before.before.before.before.before.before.before.before.before.before.before.before.before.before.before.before.before.before.before.before.before.before.before.before.before.before.before.before.before.before.before.args.file.ptr.1)) (sym (read_place _ _ _ told))),
               ),
             ),
           ),

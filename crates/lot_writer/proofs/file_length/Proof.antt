@@ -1,7 +1,7 @@
 -- `file_length` meets its contract. Assumes nothing.
 use mathlib.Core.Path.{◌∙◌}
 use borrow.Author.Rules.{rules}
-use Rattle.lot_writer.proofs.Capped.{cap-all}
+use Rattle.lot_writer.proofs.Capped.{cap_all}
 use Rattle.lot_writer.proofs.file_length.Statement.{statement}
 use Rattle.lot_writer.proofs.file_length.Tie as tie
 
@@ -50,7 +50,7 @@ cap-requires-6 c κs = search rules
 returns : tie.Need-returns
 returns c =
     let s = c.before.before.before.before.before.before in
-    c.cap6.ensures ∙ rw (c.before.cap5.ensures, c.before.before.cap4.ensures, c.before.before.before.cap3.ensures, c.before.before.before.before.cap2.ensures, c.before.before.before.before.before.cap.ensures) (cap-all s.args.label s.args.nodes s.args.elements s.args.groups s.args.names)
+    c.cap6.ensures ∙ rw (c.before.cap5.ensures, c.before.before.cap4.ensures, c.before.before.before.cap3.ensures, c.before.before.before.before.cap2.ensures, c.before.before.before.before.before.cap.ensures) (cap_all s.args.label s.args.nodes s.args.elements s.args.groups s.args.names)
 
 pub file-length-spec : {M : Type 1} → statement M
 file-length-spec =

@@ -4,14 +4,14 @@ use mathlib.Core.List.{List}
 use Prim.Native.Nat.{ℕ}
 use borrow.Author.Rules.{rules}
 use lib.ListN.{length}
-use Rattle.foundation.specs.Laid.{put, laidOver, put-start}
-use Rattle.lot_format.specs.Format.{lotFile, written}
-use Rattle.lot_format.specs.Runs.{Runs, lotFrom}
-use Rattle.lot_format.specs.Writing.{Unwritable, Writing, writing, fileOf}
-use Rattle.lot_roundtrip_theory.specs.Tests.{Writable, written-writable}
+use Rattle.foundation.specs.Laid.{put, laid_over, put_start}
+use Rattle.lot_format.specs.Format.{lot_file, written}
+use Rattle.lot_format.specs.Runs.{Runs, lot_from}
+use Rattle.lot_format.specs.Writing.{Unwritable, Writing, writing, file_of}
+use Rattle.lot_roundtrip_theory.specs.Tests.{Writable, written_writable}
 use Rattle.lot_writer.specs.declared.Written.{Written}
-use Rattle.lot_writer.specs.Meaning.{runs, lengthIs, refuses, writtenHeld, answer_of}
-use Rattle.lot_writer.specs.Answers.{length-file, refused-nothing}
+use Rattle.lot_writer.specs.Meaning.{runs, length_is, refuses, written_held, answer_of}
+use Rattle.lot_writer.specs.Answers.{length_file, refused_nothing}
 use Rattle.lot_writer.proofs.write.Statement.{statement}
 use Rattle.lot_writer.proofs.write.Tie as tie
 
@@ -20,24 +20,24 @@ abbrev x : tie.Start → Runs
 x s = runs s.args.label.now s.args.nodes.now s.args.elements.now s.args.names.now s.args.lengths.now s.args.offsets.now
 
 abbrev w : tie.Start → Writing
-w s = writing lotFile (x s) (length s.args.out.now)
+w s = writing lot_file (x s) (length s.args.out.now)
 
 module _ (s : tie.Start) where
-  told : {a b : Written} → a ≡ b → writtenHeld a ≡ answer_of (w s) → writtenHeld b ≡ answer_of (w s)
-  told e h = sym (ap writtenHeld e) ∙ h
+  told : {a b : Written} → a ≡ b → written_held a ≡ answer_of (w s) → written_held b ≡ answer_of (w s)
+  told e h = sym (ap written_held e) ∙ h
 
-  untouched : {r : Unwritable} → refuses r ≡ answer_of (w s) → s.args.out.now ≡ laidOver (fileOf (w s)) s.args.out.now
-  untouched e = sym (ap (λ (l : List ℕ). laidOver l s.args.out.now) (refused-nothing (w s) e))
+  untouched : {r : Unwritable} → refuses r ≡ answer_of (w s) → s.args.out.now ≡ laid_over (file_of (w s)) s.args.out.now
+  untouched e = sym (ap (λ (l : List ℕ). laid_over l s.args.out.now) (refused_nothing (w s) e))
 
-  module _ {n : ℕ} (e : lengthIs n ≡ answer_of (w s)) where
-    able : Writable lotFile (x s) (length s.args.out.now)
-    able = (written-writable lotFile (x s) (length s.args.out.now) (length-file (w s) e).0).0
+  module _ {n : ℕ} (e : length_is n ≡ answer_of (w s)) where
+    able : Writable lot_file (x s) (length s.args.out.now)
+    able = (written_writable lot_file (x s) (length s.args.out.now) (length_file (w s) e).0).0
 
-    filled : {out : List ℕ} → out ≡ put 0 (written (lotFrom (x s))) s.args.out.now → out ≡ laidOver (fileOf (w s)) s.args.out.now
+    filled : {out : List ℕ} → out ≡ put 0 (written (lot_from (x s))) s.args.out.now → out ≡ laid_over (file_of (w s)) s.args.out.now
     filled h =
         h
-        ∙ put-start (written (lotFrom (x s))) s.args.out.now
-        ∙ ap (λ (l : List ℕ). laidOver l s.args.out.now) (sym (written-writable lotFile (x s) (length s.args.out.now) (length-file (w s) e).0).1)
+        ∙ put_start (written (lot_from (x s))) s.args.out.now
+        ∙ ap (λ (l : List ℕ). laid_over l s.args.out.now) (sym (written_writable lot_file (x s) (length s.args.out.now) (length_file (w s) e).0).1)
 
 -- ---- the needs
 tested-requires : tie.Need-tested-requires

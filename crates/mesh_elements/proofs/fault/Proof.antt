@@ -8,12 +8,12 @@ use borrow.Author.Rules.{rules}
 use lib.ListN.{length}
 use lib.IntN.{ℤ}
 use Rattle.definitions.specs.Limits.{base}
-use Rattle.definitions.specs.Mesh.{missingIndex, namedTwice, points_of, outOfRange}
+use Rattle.definitions.specs.Mesh.{missing_index, named_twice, points_of, out_of_range}
 use Rattle.mesh_points.specs.declared.First.{First}
 use Rattle.mesh_points.specs.Meaning.{first_of}
-use Rattle.mesh_elements.specs.Meaning.{pointsAfter}
-use Rattle.mesh_indices.specs.Missing.{missing-below, missing-none}
-use Rattle.mesh_elements.specs.Elements.{points_kept, points-gathered, fault-missing, fault-twice, fault-outside, fault-none}
+use Rattle.mesh_elements.specs.Meaning.{points_after}
+use Rattle.mesh_indices.specs.Missing.{missing_below, missing_none}
+use Rattle.mesh_elements.specs.Elements.{points_kept, points_gathered, fault_missing, fault_twice, fault_outside, fault_none}
 use Rattle.mesh_elements.proofs.fault.Statement.{statement}
 use Rattle.mesh_elements.proofs.fault.Tie as tie
 
@@ -22,7 +22,7 @@ missing-index-requires : tie.Need-missing-index-requires
 missing-index-requires c κs = search rules
 
 gather-requires : tie.Need-gather-requires
-gather-requires c κs = (search rules, (search rules, missing-none _ _ (sym c.before.before.before.missing-index.ensures ∙ ap first_of c.before.enum_told.given.1)))
+gather-requires c κs = (search rules, (search rules, missing_none _ _ (sym c.before.before.before.missing-index.ensures ∙ ap first_of c.before.enum_told.given.1)))
 
 named-twice-requires : tie.Need-named-twice-requires
 named-twice-requires c κs = search rules
@@ -35,7 +35,7 @@ enum-known-missing : tie.Need-enum-known-missing
 enum-known-missing c = search rules
 
 found_below : (c : tie.After-missing) → c.missing.given.0.0 < 8
-found_below c = missing-below _ _ _ (sym c.before.before.missing-index.ensures ∙ ap first_of c.missing.given.1)
+found_below c = missing_below _ _ _ (sym c.before.before.missing-index.ensures ∙ ap first_of c.missing.given.1)
 
 add-place : tie.Need-overflow-add-place
 add-place c = omega (arith, found_below c.before)
@@ -53,7 +53,7 @@ returns : tie.Need-returns
 returns c =
     let found = c.before.before in
     let missing = sym found.before.before.missing-index.ensures ∙ ap first_of found.missing.given.1 in
-    (sym (fault-missing base _ _ _ missing), points_kept _ _ _ _ missing)
+    (sym (fault_missing base _ _ _ missing), points_kept _ _ _ _ missing)
 
 enum_told : tie.Need-enum-told
 enum_told c = search rules
@@ -66,17 +66,17 @@ module _ (c : tie.After-out-of-range) where
   abbrev ix : List ℕ
   ix = c.before.before.before.before.before.before.before.before.before.args.ix.now
 
-  all_named : missingIndex (length coordinates / 3) ix ≡ none
+  all_named : missing_index (length coordinates / 3) ix ≡ none
   all_named = let g = c.before.before.before in sym g.before.before.before.before.missing-index.ensures ∙ ap first_of g.before.before.enum_told.given.1
 
-  pair_found : (t : First) → c.before.before.named-twice.result ≡ t → namedTwice ix ≡ first_of t
+  pair_found : (t : First) → c.before.before.named-twice.result ≡ t → named_twice ix ≡ first_of t
   pair_found t e = sym c.before.before.named-twice.ensures ∙ ap first_of e
 
-  coordinate-found : (t : First) → c.out_of_range.result ≡ t → outOfRange base (points_of coordinates ix) ≡ first_of t
-  coordinate-found t e = ap (outOfRange base) (sym c.before.before.before.gather.ensures) ∙ sym c.out_of_range.ensures ∙ ap first_of e
+  coordinate_found : (t : First) → c.out_of_range.result ≡ t → out_of_range base (points_of coordinates ix) ≡ first_of t
+  coordinate_found t e = ap (out_of_range base) (sym c.before.before.before.gather.ensures) ∙ sym c.out_of_range.ensures ∙ ap first_of e
 
-  points-here : c.before.before.before.gather.new.1.1.0 ≡ pointsAfter coordinates ix c.before.before.before.before.before.before.before.before.before.args.p.now
-  points-here = c.before.before.before.gather.ensures ∙ points-gathered _ _ _ all_named
+  points_here : c.before.before.before.gather.new.1.1.0 ≡ points_after coordinates ix c.before.before.before.before.before.before.before.before.before.args.p.now
+  points_here = c.before.before.before.gather.ensures ∙ points_gathered _ _ _ all_named
 
 -- ---- two places with one index
 enum-known-twice : tie.Need-enum-known-twice
@@ -91,7 +91,7 @@ add-higher c = search rules
 returns-2 : tie.Need-returns-2
 returns-2 c =
     let s = c.before.before.before in
-    (sym (fault-twice base (coordinates s) (ix s) _ (all_named s) (pair_found s _ c.before.twice.given.1)), points-here s)
+    (sym (fault_twice base (coordinates s) (ix s) _ (all_named s) (pair_found s _ c.before.twice.given.1)), points_here s)
 
 enum-told-2 : tie.Need-enum-told-2
 enum-told-2 c = search rules
@@ -109,7 +109,7 @@ add-axis c = search rules
 returns-3 : tie.Need-returns-3
 returns-3 c =
     let s = c.before.before.before.before.before in
-    (sym (fault-outside base (coordinates s) (ix s) _ (all_named s) (pair_found s _ c.before.before.before.enum-told2.given.1) (coordinate-found s _ c.before.outside.given.1)), points-here s)
+    (sym (fault_outside base (coordinates s) (ix s) _ (all_named s) (pair_found s _ c.before.before.before.enum-told2.given.1) (coordinate_found s _ c.before.outside.given.1)), points_here s)
 
 enum-told-3 : tie.Need-enum-told-3
 enum-told-3 c = search rules
@@ -118,7 +118,7 @@ enum-told-3 c = search rules
 returns-4 : tie.Need-returns-4
 returns-4 c =
     let s = c.before.before.before.before in
-    (sym (fault-none base (coordinates s) (ix s) (all_named s) (pair_found s _ c.before.before.enum-told2.given.1) (coordinate-found s _ c.enum-told3.given.1)), points-here s)
+    (sym (fault_none base (coordinates s) (ix s) (all_named s) (pair_found s _ c.before.before.enum-told2.given.1) (coordinate_found s _ c.enum-told3.given.1)), points_here s)
 
 pub fault-spec : {M : Type 1} → statement M
 fault-spec =

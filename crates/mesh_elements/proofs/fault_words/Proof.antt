@@ -4,12 +4,12 @@ use mathlib.Core.List.{List}
 use lib.IntN.{ℤ}
 use borrow.Author.Rules.{rules}
 use Rattle.mesh_elements.specs.declared.Element.{Element}
-use Rattle.mesh_elements.specs.Meaning.{elementOf, refusedWords}
+use Rattle.mesh_elements.specs.Meaning.{element_of, refused_words}
 use Rattle.mesh_elements.proofs.fault_words.Statement.{statement}
 use Rattle.mesh_elements.proofs.fault_words.Tie as tie
 
 abbrev words_of : Element → List ℤ
-words_of f = refusedWords (elementOf f)
+words_of f = refused_words (element_of f)
 
 enum_told : tie.Need-enum-told
 enum_told c = search rules

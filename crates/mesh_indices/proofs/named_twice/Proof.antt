@@ -3,20 +3,20 @@ use mathlib.Core.Path.{◌≡◌, sym, ◌∙◌, ap}
 use Prim.Native.Nat.{◌-◌, ◌≤◌}
 use native.Mathlib.Omega.{arith}
 use borrow.Author.Rules.{rules}
-use Rattle.definitions.specs.Mesh.{namedTwice}
+use Rattle.definitions.specs.Mesh.{named_twice}
 use Rattle.mesh_points.specs.Meaning.{first_of}
-use Rattle.mesh_indices.specs.Pairs.{pairsFrom, all-pairs, this_place, next_place, no_place}
+use Rattle.mesh_indices.specs.Pairs.{pairs_from, all_pairs, this_place, next_place, no_place}
 use Rattle.mesh_indices.proofs.named_twice.Statement.{statement}
 use Rattle.mesh_indices.proofs.named_twice.Tie as tie
 
 abbrev invariant-loop : tie.invariant-loop
-invariant-loop ix first₀ first = (first ≤ 8) × (namedTwice ix ≡ pairsFrom ix first)
+invariant-loop ix first₀ first = (first ≤ 8) × (named_twice ix ≡ pairs_from ix first)
 
 abbrev decreases-loop : tie.decreases-loop
 decreases-loop ix first₀ first = 8 - first
 
 loop-holds : tie.Need-loop-init invariant-loop decreases-loop
-loop-holds c = (omega arith, all-pairs c.before.args.ix.now)
+loop-holds c = (omega arith, all_pairs c.before.args.ix.now)
 
 same-after-requires : tie.Need-same-after-requires invariant-loop decreases-loop
 same-after-requires c κs = search rules

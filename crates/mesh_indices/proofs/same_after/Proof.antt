@@ -3,13 +3,13 @@ use mathlib.Core.Path.{◌≡◌, sym, ◌∙◌}
 use Prim.Native.Nat.{◌-◌, ◌≤◌, ◌<◌}
 use native.Mathlib.Omega.{arith}
 use borrow.Author.Rules.{rules}
-use Rattle.mesh_indices.specs.Pairs.{sameAfter, laterPairs, later-places, later-differs, later_same, no-later}
+use Rattle.mesh_indices.specs.Pairs.{same_after, later_pairs, later_places, later_differs, later_same, no_later}
 use Rattle.mesh_indices.proofs.same_after.Statement.{statement}
 use Rattle.mesh_indices.proofs.same_after.Tie as tie
 
 abbrev invariant-loop : tie.invariant-loop
 invariant-loop ix first index second₀ second =
-    (first < second) × (second ≤ 8) × (sameAfter ix first ≡ laterPairs ix first second)
+    (first < second) × (second ≤ 8) × (same_after ix first ≡ later_pairs ix first second)
 
 abbrev decreases-loop : tie.decreases-loop
 decreases-loop ix first index second₀ second = 8 - second
@@ -24,7 +24,7 @@ add-second : tie.Need-overflow-add-second invariant-loop decreases-loop
 add-second c = search rules
 
 loop-holds : tie.Need-loop-init invariant-loop decreases-loop
-loop-holds c = (omega arith, omega arith, later-places c.before.args.ix.now c.before.args.first (omega arith))
+loop-holds c = (omega arith, omega arith, later_places c.before.args.ix.now c.before.args.first (omega arith))
 
 mul-other : tie.Need-overflow-mul-other invariant-loop decreases-loop
 mul-other c = search rules
@@ -55,12 +55,12 @@ loop-less c = search rules
 loop-again : tie.Need-loop-preserved invariant-loop decreases-loop
 loop-again c =
     let passed = c.before.before.before in
-    (omega arith, omega arith, passed.loop.invariant.2 ∙ later-differs passed.before.before.args.ix.now passed.before.before.args.first passed.loop.second (omega arith) c.if1.false)
+    (omega arith, omega arith, passed.loop.invariant.2 ∙ later_differs passed.before.before.args.ix.now passed.before.before.args.first passed.loop.second (omega arith) c.if1.false)
 
 returns-2 : tie.Need-returns-2 invariant-loop decreases-loop
 returns-2 c =
     let done : c.before.loop.second ≡ 8 = omega arith in
-    sym (c.before.loop.invariant.2 ∙ no-later c.before.before.before.args.ix.now c.before.before.before.args.first c.before.loop.second done)
+    sym (c.before.loop.invariant.2 ∙ no_later c.before.before.before.args.ix.now c.before.before.before.args.first c.before.loop.second done)
 
 pub same-after-spec : {M : Type 1} → statement M
 same-after-spec =

@@ -9,8 +9,8 @@ use lib.IntN.{pos}
 use mir.Syntax.{w32}
 use mir.ValLaws.{to_z-of_z}
 use Rattle.definitions.specs.Mesh.{points_of}
-use Rattle.mesh_points.specs.Points.{length-points, axis-at}
-use Rattle.mesh_points.proofs.Laws.{fill-three}
+use Rattle.mesh_points.specs.Points.{length_points, axis_at}
+use Rattle.mesh_points.proofs.Laws.{fill_three}
 use Rattle.mesh_points.proofs.gather.Statement.{statement}
 use Rattle.mesh_points.proofs.gather.Tie as tie
 
@@ -113,10 +113,10 @@ loop-again c =
     let here : k < 8 = omega arith in
     let first : node + 0 ≡ node = omega arith in
     let start : 3 * k + 0 ≡ 3 * k = omega arith in
-    let x = to_z-of_z w32 (get_or coordinates node (pos 0)) (record { sfits = c.before.before.x.given }) ∙ ap (λ (n : ℕ). get_or coordinates n (pos 0)) (sym first) ∙ sym (axis-at coordinates ix k 0 here (omega arith)) ∙ ap (λ (n : ℕ). get_or (points_of coordinates ix) n (pos 0)) start in
-    let y = to_z-of_z w32 (get_or coordinates (node + 1) (pos 0)) (record { sfits = c.before.y.given }) ∙ sym (axis-at coordinates ix k 1 here (omega arith)) in
-    let z = to_z-of_z w32 (get_or coordinates (node + 2) (pos 0)) (record { sfits = c.z.given }) ∙ sym (axis-at coordinates ix k 2 here (omega arith)) in
-    let below = fill-three at.p (points_of coordinates ix) (3 * k) _ _ _ (omega (arith, at.invariant.1)) at.invariant.2 x y z in
+    let x = to_z-of_z w32 (get_or coordinates node (pos 0)) (record { sfits = c.before.before.x.given }) ∙ ap (λ (n : ℕ). get_or coordinates n (pos 0)) (sym first) ∙ sym (axis_at coordinates ix k 0 here (omega arith)) ∙ ap (λ (n : ℕ). get_or (points_of coordinates ix) n (pos 0)) start in
+    let y = to_z-of_z w32 (get_or coordinates (node + 1) (pos 0)) (record { sfits = c.before.y.given }) ∙ sym (axis_at coordinates ix k 1 here (omega arith)) in
+    let z = to_z-of_z w32 (get_or coordinates (node + 2) (pos 0)) (record { sfits = c.z.given }) ∙ sym (axis_at coordinates ix k 2 here (omega arith)) in
+    let below = fill_three at.p (points_of coordinates ix) (3 * k) _ _ _ (omega (arith, at.invariant.1)) at.invariant.2 x y z in
     (omega arith, simp length-set at.invariant.1, λ j h. below j (omega arith))
 
 returns : tie.Need-returns invariant-loop decreases-loop
@@ -124,7 +124,7 @@ returns c =
     let s = c.before.before in
     let at = c.before.loop in
     ext_get_or (pos 0) at.p (points_of s.args.coordinates.now s.args.ix.now)
-    (at.invariant.1 ∙ sym (length-points s.args.coordinates.now s.args.ix.now))
+    (at.invariant.1 ∙ sym (length_points s.args.coordinates.now s.args.ix.now))
     (λ j h. at.invariant.2 j (omega arith))
 
 pub gather-spec : {M : Type 1} → statement M

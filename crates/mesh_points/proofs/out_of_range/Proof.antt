@@ -9,19 +9,19 @@ use lib.IntN.{pos}
 use mir.Syntax.{w32}
 use mir.ValLaws.{to_z-of_z}
 use Rattle.definitions.specs.Limits.{base}
-use Rattle.definitions.specs.Mesh.{firstFrom, usable, outOfRange}
-use Rattle.mesh_points.specs.Search.{first-here, first-later, first-over}
+use Rattle.definitions.specs.Mesh.{first_from, usable, out_of_range}
+use Rattle.mesh_points.specs.Search.{first_here, first_later, first_over}
 use Rattle.mesh_points.proofs.out_of_range.Statement.{statement}
 use Rattle.mesh_points.proofs.out_of_range.Tie as tie
 
 abbrev invariant-loop : tie.invariant-loop
-invariant-loop p k₀ k = (k ≤ 24) × (outOfRange base p ≡ firstFrom (λ j. not (usable base (get_or p j (pos 0)))) k (24 - k))
+invariant-loop p k₀ k = (k ≤ 24) × (out_of_range base p ≡ first_from (λ j. not (usable base (get_or p j (pos 0)))) k (24 - k))
 
 abbrev decreases-loop : tie.decreases-loop
 decreases-loop p k₀ k = 24 - k
 
 loop-holds : tie.Need-loop-init invariant-loop decreases-loop
-unfolding outOfRange
+unfolding out_of_range
 loop-holds c = (omega arith, refl)
 
 mul-x : tie.Need-overflow-mul-x invariant-loop decreases-loop
@@ -46,7 +46,7 @@ tested c =
 returns : tie.Need-returns invariant-loop decreases-loop
 returns c =
     let found = c.before.before.before.before in
-    sym (found.loop.invariant.1 ∙ first-here _ found.loop.k 24 (omega arith) (ap not (tested c.before) ∙ c.if1.true))
+    sym (found.loop.invariant.1 ∙ first_here _ found.loop.k 24 (omega arith) (ap not (tested c.before) ∙ c.if1.true))
 
 add-k : tie.Need-overflow-add-k invariant-loop decreases-loop
 add-k c = search rules
@@ -57,12 +57,12 @@ loop-less c = search rules
 loop-again : tie.Need-loop-preserved invariant-loop decreases-loop
 loop-again c =
     let passed = c.before.before.before.before in
-    (omega arith, passed.loop.invariant.1 ∙ first-later _ passed.loop.k 24 (omega arith) (ap not (tested c.before) ∙ c.if1.false))
+    (omega arith, passed.loop.invariant.1 ∙ first_later _ passed.loop.k 24 (omega arith) (ap not (tested c.before) ∙ c.if1.false))
 
 returns-2 : tie.Need-returns-2 invariant-loop decreases-loop
 returns-2 c =
     let done : c.before.loop.k ≡ 24 = omega arith in
-    sym (c.before.loop.invariant.1 ∙ first-over _ c.before.loop.k 24 done)
+    sym (c.before.loop.invariant.1 ∙ first_over _ c.before.loop.k 24 done)
 
 pub out-of-range-spec : {M : Type 1} → statement M
 out-of-range-spec =

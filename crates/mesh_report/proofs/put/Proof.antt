@@ -10,30 +10,30 @@ use lib.Seq.{paste, paste-zero, paste-suc, take_all}
 use lib.IntN.{ℤ, pos}
 use mir.Syntax.{w64}
 use mir.ValLaws.{to_z-of_z}
-use Rattle.definitions.specs.Limits.{recordWords}
+use Rattle.definitions.specs.Limits.{record_words}
 use Rattle.mesh_report.proofs.put.Statement.{statement}
 use Rattle.mesh_report.proofs.put.Tie as tie
 
 abbrev invariant-loop : tie.invariant-loop
-invariant-loop e report₀ words at k₀ report k = (k ≤ recordWords) × (report ≡ paste report₀ at words k) × (length report ≡ length report₀) × (length words ≡ recordWords)
+invariant-loop e report₀ words at k₀ report k = (k ≤ record_words) × (report ≡ paste report₀ at words k) × (length report ≡ length report₀) × (length words ≡ record_words)
 
 abbrev decreases-loop : tie.decreases-loop
-decreases-loop e report₀ words at k₀ report k = recordWords - k
+decreases-loop e report₀ words at k₀ report k = record_words - k
 
 returns : tie.Need-returns invariant-loop decreases-loop
 returns c =
     let s = c.before.before in
-    let at = recordWords * s.args.e in
-    let h : c.before.loop.k ≡ recordWords = omega arith in
+    let at = record_words * s.args.e in
+    let h : c.before.loop.k ≡ record_words = omega arith in
     c.before.loop.invariant.1
     ∙ ap (λ (k : ℕ). paste s.args.report.now at s.args.t1 k) h
-    ∙ ap (λ (w : List ℤ). take at s.args.report.now ++ w ++ drop (at + recordWords) s.args.report.now) (take_all recordWords s.args.t1 (omega arith))
+    ∙ ap (λ (w : List ℤ). take at s.args.report.now ++ w ++ drop (at + record_words) s.args.report.now) (take_all record_words s.args.t1 (omega arith))
 
 mul_at : tie.Need-overflow-mul-at invariant-loop decreases-loop
 mul_at c = search rules
 
 loop-holds : tie.Need-loop-init invariant-loop decreases-loop
-loop-holds c = (omega arith, paste-zero c.args.report.now (recordWords * c.args.e) c.args.t1, refl, search rules)
+loop-holds c = (omega arith, paste-zero c.args.report.now (record_words * c.args.e) c.args.t1, refl, search rules)
 
 mul-x : tie.Need-overflow-mul-x invariant-loop decreases-loop
 mul-x c = search rules
@@ -60,7 +60,7 @@ loop-again : tie.Need-loop-preserved invariant-loop decreases-loop
 loop-again c =
     let s = c.before.before.before in
     let k = c.before.before.loop.k in
-    let at = recordWords * s.args.e in
+    let at = record_words * s.args.e in
     let v = get_or s.args.t1 k (pos 0) in
     let far : at + k < length s.args.report.now = omega arith in
     let near : k < length s.args.t1 = omega arith in (

@@ -9,13 +9,13 @@ use lib.IntN.{pos}
 use mir.Syntax.{w64}
 use mir.Val.{to_z}
 use mir.ValLaws.{to_z-of_z}
-use Rattle.foundation.specs.Least.{lesser, leastOf}
+use Rattle.foundation.specs.Least.{lesser, least_of}
 use Rattle.search_theory.specs.Bounds.{corner-next}
 use Rattle.narrow_bounds.proofs.least_corner.Statement.{statement}
 use Rattle.narrow_bounds.proofs.least_corner.Tie as tie
 
 abbrev invariant-loop : tie.invariant-loop
-invariant-loop g r₀ n₀ r n = (1 ≤ n) × (n ≤ 8) × (to_z w64 r ≡ leastOf (take n g))
+invariant-loop g r₀ n₀ r n = (1 ≤ n) × (n ≤ 8) × (to_z w64 r ≡ least_of (take n g))
 
 abbrev decreases-loop : tie.decreases-loop
 decreases-loop g r₀ n₀ r n = 8 - n
@@ -24,7 +24,7 @@ element-copy-out-r : tie.Need-element-copy-out-r invariant-loop decreases-loop
 element-copy-out-r c = search rules
 
 loop-holds : tie.Need-loop-init invariant-loop decreases-loop
-loop-holds c = let s = c.before in let g = s.args.g.now in (omega arith, omega arith, to_z-of_z w64 (get_or g 0 (pos 0)) (record { sfits = c.r.given }) ∙ sym (ap leastOf (take-suc g 0 (pos 0) (omega (arith, s.requires)))))
+loop-holds c = let s = c.before in let g = s.args.g.now in (omega arith, omega arith, to_z-of_z w64 (get_or g 0 (pos 0)) (record { sfits = c.r.given }) ∙ sym (ap least_of (take-suc g 0 (pos 0) (omega (arith, s.requires)))))
 
 mul-x : tie.Need-overflow-mul-x invariant-loop decreases-loop
 mul-x c = search rules
@@ -56,7 +56,7 @@ loop-again c =
 
 returns : tie.Need-returns invariant-loop decreases-loop
 returns c = let s = c.before.before.before in let e : c.before.loop.n ≡ 8 = omega arith in
-    c.before.loop.invariant.2 ∙ ap (λ (n : ℕ). leastOf (take n s.args.g.now)) e
+    c.before.loop.invariant.2 ∙ ap (λ (n : ℕ). least_of (take n s.args.g.now)) e
 
 pub least-corner-spec : {M : Type 1} → statement M
 least-corner-spec =

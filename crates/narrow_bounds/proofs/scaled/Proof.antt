@@ -7,8 +7,8 @@ use lib.IntN.{ℤ, pos, nat_abs, ◌*ℤ◌}
 use mir.Syntax.{w64}
 use mir.Val.{SFits, to_z, of_z}
 use mir.ValLaws.{to_z-of_z}
-use Rattle.foundation.specs.Ring.{one-mul}
-use Rattle.foundation.specs.Words.{sfits-below}
+use Rattle.foundation.specs.Ring.{one_mul}
+use Rattle.foundation.specs.Words.{sfits_below}
 use Rattle.search_theory.specs.Bounds.{scaled-next, scaled-room}
 use Rattle.narrow_rows.specs.Word.{largest}
 use Rattle.narrow_bounds.proofs.scaled.Statement.{statement}
@@ -21,7 +21,7 @@ abbrev decreases-loop : tie.decreases-loop
 decreases-loop x left r₀ n₀ r n = left - n
 
 loop-holds : tie.Need-loop-init invariant-loop decreases-loop
-loop-holds c = (zero-le, sym (one-mul _))
+loop-holds c = (zero-le, sym (one_mul _))
 
 -- the next one
 module _ (left n : ℕ) (x y : ℤ) (room : nat_abs x * 64 ^ left ≤ largest) (e : y ≡ pos (64 ^ n) *ℤ x) where
@@ -29,7 +29,7 @@ module _ (left n : ℕ) (x y : ℤ) (room : nat_abs x * 64 ^ left ≤ largest) (
   larger = ap (λ (z : ℤ). pos 64 *ℤ z) e ∙ scaled-next n x
 
   fits : n < left → SFits w64 (pos 64 *ℤ y)
-  fits h = subst (SFits w64) (sym larger) (sfits-below (pos (64 ^ (n + 1)) *ℤ x) (scaled-room largest left x room n h) (omega arith))
+  fits h = subst (SFits w64) (sym larger) (sfits_below (pos (64 ^ (n + 1)) *ℤ x) (scaled-room largest left x room n h) (omega arith))
 
 -- what the loop says, with the number read back
 held : (n : ℕ) (x y : ℤ) → SFits w64 x → y ≡ pos (64 ^ n) *ℤ to_z w64 (of_z w64 x) → y ≡ pos (64 ^ n) *ℤ x

@@ -4,7 +4,7 @@ use lib.ListN.{take}
 use lib.IntN.{ℤ}
 use mir.Syntax.{w64}
 use mir.ValLaws.{to_z-of_z}
-use Rattle.foundation.specs.Least.{lesser, leastFrom}
+use Rattle.foundation.specs.Least.{lesser, least_from}
 use borrow.Author.Rules.{rules}
 use Rattle.narrow_bounds.proofs.with_cell.Statement.{statement}
 use Rattle.narrow_bounds.proofs.with_cell.Tie as tie
@@ -23,7 +23,7 @@ returns c =
     let least = to_z-of_z w64 s.args.least s.ranges.least ∙ s.requires.1 in
     λ i. record {
       low = (to_z-of_z w64 c.before.lesser.result (record { sfits = c.before.lesser.type-inv }) ∙ c.before.lesser.ensures ∙ ap₂ lesser low least) i;
-      high = (to_z-of_z w64 c.with-corners.result (record { sfits = c.with-corners.type-inv }) ∙ c.with-corners.ensures ∙ ap (λ (v : ℤ). leastFrom v (take 8 s.args.g.now)) high) i;
+      high = (to_z-of_z w64 c.with-corners.result (record { sfits = c.with-corners.type-inv }) ∙ c.with-corners.ensures ∙ ap (λ (v : ℤ). least_from v (take 8 s.args.g.now)) high) i;
     }
 
 pub with-cell-spec : {M : Type 1} → statement M

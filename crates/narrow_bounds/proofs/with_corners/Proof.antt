@@ -8,13 +8,13 @@ use lib.IntN.{pos}
 use mir.Syntax.{w64}
 use mir.Val.{to_z}
 use mir.ValLaws.{to_z-of_z}
-use Rattle.foundation.specs.Least.{lesser, leastFrom}
-use Rattle.search_theory.specs.Bounds.{least-next}
+use Rattle.foundation.specs.Least.{lesser, least_from}
+use Rattle.search_theory.specs.Bounds.{least_next}
 use Rattle.narrow_bounds.proofs.with_corners.Statement.{statement}
 use Rattle.narrow_bounds.proofs.with_corners.Tie as tie
 
 abbrev invariant-loop : tie.invariant-loop
-invariant-loop g v r₀ n₀ r n = (n ≤ 8) × (to_z w64 r ≡ leastFrom (to_z w64 v) (take n g))
+invariant-loop g v r₀ n₀ r n = (n ≤ 8) × (to_z w64 r ≡ least_from (to_z w64 v) (take n g))
 
 abbrev decreases-loop : tie.decreases-loop
 decreases-loop g v r₀ n₀ r n = 8 - n
@@ -46,12 +46,12 @@ loop-again c =
     let h : k < length g = omega (arith, s.requires) in (
       omega arith,
       to_z-of_z w64 c.lesser.result (record { sfits = c.lesser.type-inv }) ∙ c.lesser.ensures ∙ ap₂ lesser l.loop.invariant.1 (to_z-of_z w64 (get_or g k (pos 0)) (record { sfits = c.before.x.given }))
-          ∙ sym (least-next _ g k h),
+          ∙ sym (least_next _ g k h),
     )
 
 returns : tie.Need-returns invariant-loop decreases-loop
 returns c = let s = c.before.before in let e : c.before.loop.n ≡ 8 = omega arith in
-    c.before.loop.invariant.1 ∙ (λ i. leastFrom (to_z-of_z w64 s.args.v s.ranges.v i) (take (e i) s.args.g.now))
+    c.before.loop.invariant.1 ∙ (λ i. least_from (to_z-of_z w64 s.args.v s.ranges.v i) (take (e i) s.args.g.now))
 
 pub with-corners-spec : {M : Type 1} → statement M
 with-corners-spec =

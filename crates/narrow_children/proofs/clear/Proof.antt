@@ -14,40 +14,40 @@ use Rattle.definitions.specs.Jacobian.{side}
 use Rattle.definitions.specs.Subdivision.{halve}
 use Rattle.definitions.specs.Eighths.{Eighth}
 use Rattle.expansion_theory.specs.Control.{Cuttable}
-use Rattle.verdict_theory.specs.Clear.{childControl}
+use Rattle.verdict_theory.specs.Clear.{child_control}
 use Rattle.search_theory.specs.Meaning.{lowest}
-use Rattle.search_theory.specs.Children.{run-four, run-two, run-one, run_none, child-length, cut-whole, cut-half, cut-quarter}
-use Rattle.search_theory.specs.Eighths.{least-low, least-clear, eighth-made}
+use Rattle.search_theory.specs.Children.{run_four, run_two, run_one, run_none, child_length, cut_whole, cut_half, cut_quarter}
+use Rattle.search_theory.specs.Eighths.{least_low, least_clear, eighth_made}
 use Rattle.narrow_rows.specs.Word.{largest}
 use Rattle.narrow_children.proofs.clear.Statement.{statement}
 use Rattle.narrow_children.proofs.clear.Tie as tie
 
 clear-half-at-requires : tie.Need-clear-half-at-requires
-clear-half-at-requires c κs = let s = c.before in let ready = s.requires.2 in ((cut-whole largest s.args.g.now s.requires.0, omega arith, ready.half-sized), λ e. ready.half_is (eqb-false _ 0 e))
+clear-half-at-requires c κs = let s = c.before in let ready = s.requires.2 in ((cut_whole largest s.args.g.now s.requires.0, omega arith, ready.half_sized), λ e. ready.half_is (eqb-false _ 0 e))
 
 returns : tie.Need-returns
 returns c = let s = c.before.before.before in let g = s.args.g.now in let k = s.args.k in let half = c.before.clear-half-at in
-    run-four g k s.requires.1 _ _ _ (sym half.ensures.1 ∙ c.if1.true) half.ensures.0 s.requires.2.quarter-sized s.requires.3
+    run_four g k s.requires.1 _ _ _ (sym half.ensures.1 ∙ c.if1.true) half.ensures.0 s.requires.2.quarter_sized s.requires.3
 
 clear-half-at-requires-2 : tie.Need-clear-half-at-requires-2
 clear-half-at-requires-2 c κs = let s = c.before.before.before.before.before in let g = s.args.g.now in let k = s.args.k in let half = c.before.before.before.clear-half-at.ensures.0 in let ready = s.requires.2 in
-    ((subst (Cuttable largest) (sym half) (cut-half largest g s.requires.0 k), omega arith, ready.quarter-sized), λ e. ready.quarter-is (eqb-false _ 0 e) ∙ sym (ap (halve 1 (side 1 k)) half))
+    ((subst (Cuttable largest) (sym half) (cut_half largest g s.requires.0 k), omega arith, ready.quarter_sized), λ e. ready.quarter_is (eqb-false _ 0 e) ∙ sym (ap (halve 1 (side 1 k)) half))
 
 returns-2 : tie.Need-returns-2
 returns-2 c = let s = c.before.before.before.before.before.before.before in let g = s.args.g.now in let k = s.args.k in let half = c.before.before.before.before.before.clear-half-at in let part = c.before.clear-half-at2 in let quarter = part.ensures.0 ∙ ap (halve 1 (side 1 k)) half.ensures.0 in let t = sym half.ensures.1 ∙ c.before.before.before.before.if1.false in let u = sym (part.ensures.1 ∙ ap (λ (xs : List ℤ). eqb (k % 2) 0 && eqb (lowest (halve 1 (side 1 k) xs)) 0) half.ensures.0) in
-    run-two g k s.requires.1 _ _ _ t half.ensures.0 quarter (u ∙ c.if2.true) s.requires.3
+    run_two g k s.requires.1 _ _ _ t half.ensures.0 quarter (u ∙ c.if2.true) s.requires.3
 
 eighth-requires : tie.Need-eighth-requires
 eighth-requires c κs = let s = c.before.before.before.before.before.before.before.before.before in let g = s.args.g.now in let k = s.args.k in
-    (subst (Cuttable largest) (sym (c.before.before.before.clear-half-at2.ensures.0 ∙ ap (halve 1 (side 1 k)) c.before.before.before.before.before.before.before.clear-half-at.ensures.0)) (cut-quarter largest g s.requires.0 k), s.requires.3)
+    (subst (Cuttable largest) (sym (c.before.before.before.clear-half-at2.ensures.0 ∙ ap (halve 1 (side 1 k)) c.before.before.before.before.before.before.before.clear-half-at.ensures.0)) (cut_quarter largest g s.requires.0 k), s.requires.3)
 
 returns-3 : tie.Need-returns-3
-returns-3 c = let s = c.before.before.before.before.before.before.before.before.before.before.before.before.before in let g = s.args.g.now in let k = s.args.k in let half = c.before.before.before.before.before.before.before.before.before.before.before.clear-half-at in let part = c.before.before.before.before.before.before.before.clear-half-at2 in let quarter = part.ensures.0 ∙ ap (halve 1 (side 1 k)) half.ensures.0 in let t = sym half.ensures.1 ∙ c.before.before.before.before.before.before.before.before.before.before.if1.false in let u = sym (part.ensures.1 ∙ ap (λ (xs : List ℤ). eqb (k % 2) 0 && eqb (lowest (halve 1 (side 1 k) xs)) 0) half.ensures.0) in let child = c.before.before.before.eighth in let answer = child.ensures ∙ eighth-made g k _ quarter in let v = sym (ap (λ (z : ℤ). le_z z (pos 0)) (to_z-of_z w64 child.result.value (record { sfits = c.before.struct_told.given.0.1 }) ∙ ap (λ (e : Eighth). e.least) answer)) ∙ c.if3.true in
-    run_none g k s.requires.1 _ _ _ t half.ensures.0 quarter (u ∙ c.before.before.before.before.before.before.if2.false) (ap (λ (e : Eighth). e.control) answer) v (least-low (childControl g k) (child-length g k) v)
+returns-3 c = let s = c.before.before.before.before.before.before.before.before.before.before.before.before.before in let g = s.args.g.now in let k = s.args.k in let half = c.before.before.before.before.before.before.before.before.before.before.before.clear-half-at in let part = c.before.before.before.before.before.before.before.clear-half-at2 in let quarter = part.ensures.0 ∙ ap (halve 1 (side 1 k)) half.ensures.0 in let t = sym half.ensures.1 ∙ c.before.before.before.before.before.before.before.before.before.before.if1.false in let u = sym (part.ensures.1 ∙ ap (λ (xs : List ℤ). eqb (k % 2) 0 && eqb (lowest (halve 1 (side 1 k) xs)) 0) half.ensures.0) in let child = c.before.before.before.eighth in let answer = child.ensures ∙ eighth_made g k _ quarter in let v = sym (ap (λ (z : ℤ). le_z z (pos 0)) (to_z-of_z w64 child.result.value (record { sfits = c.before.struct_told.given.0.1 }) ∙ ap (λ (e : Eighth). e.least) answer)) ∙ c.if3.true in
+    run_none g k s.requires.1 _ _ _ t half.ensures.0 quarter (u ∙ c.before.before.before.before.before.before.if2.false) (ap (λ (e : Eighth). e.control) answer) v (least_low (child_control g k) (child_length g k) v)
 
 returns-4 : tie.Need-returns-4
-returns-4 c = let s = c.before.before.before.before.before.before.before.before.before.before.before.before.before in let g = s.args.g.now in let k = s.args.k in let half = c.before.before.before.before.before.before.before.before.before.before.before.clear-half-at in let part = c.before.before.before.before.before.before.before.clear-half-at2 in let quarter = part.ensures.0 ∙ ap (halve 1 (side 1 k)) half.ensures.0 in let t = sym half.ensures.1 ∙ c.before.before.before.before.before.before.before.before.before.before.if1.false in let u = sym (part.ensures.1 ∙ ap (λ (xs : List ℤ). eqb (k % 2) 0 && eqb (lowest (halve 1 (side 1 k) xs)) 0) half.ensures.0) in let child = c.before.before.before.eighth in let answer = child.ensures ∙ eighth-made g k _ quarter in let v = sym (ap (λ (z : ℤ). le_z z (pos 0)) (to_z-of_z w64 child.result.value (record { sfits = c.before.struct_told.given.0.1 }) ∙ ap (λ (e : Eighth). e.least) answer)) ∙ c.if3.false in
-    run-one g k s.requires.1 _ _ _ t half.ensures.0 quarter (u ∙ c.before.before.before.before.before.before.if2.false) (ap (λ (e : Eighth). e.control) answer) v (least-clear (childControl g k) (child-length g k) v)
+returns-4 c = let s = c.before.before.before.before.before.before.before.before.before.before.before.before.before in let g = s.args.g.now in let k = s.args.k in let half = c.before.before.before.before.before.before.before.before.before.before.before.clear-half-at in let part = c.before.before.before.before.before.before.before.clear-half-at2 in let quarter = part.ensures.0 ∙ ap (halve 1 (side 1 k)) half.ensures.0 in let t = sym half.ensures.1 ∙ c.before.before.before.before.before.before.before.before.before.before.if1.false in let u = sym (part.ensures.1 ∙ ap (λ (xs : List ℤ). eqb (k % 2) 0 && eqb (lowest (halve 1 (side 1 k) xs)) 0) half.ensures.0) in let child = c.before.before.before.eighth in let answer = child.ensures ∙ eighth_made g k _ quarter in let v = sym (ap (λ (z : ℤ). le_z z (pos 0)) (to_z-of_z w64 child.result.value (record { sfits = c.before.struct_told.given.0.1 }) ∙ ap (λ (e : Eighth). e.least) answer)) ∙ c.if3.false in
+    run_one g k s.requires.1 _ _ _ t half.ensures.0 quarter (u ∙ c.before.before.before.before.before.before.if2.false) (ap (λ (e : Eighth). e.control) answer) v (least_clear (child_control g k) (child_length g k) v)
 
 pub clear_spec : {M : Type 1} → statement M
 clear_spec =

@@ -2,7 +2,7 @@
 use borrow.Author.Rules.{rules}
 use mathlib.Core.Path.{refl}
 use lib.Dec.{lit≤}
-use Rattle.foundation.specs.Filled.{none_filled, all-filled}
+use Rattle.foundation.specs.Filled.{none_filled, all_filled}
 use Rattle.narrow_coefficients.proofs.rows.Statement.{statement}
 use Rattle.narrow_coefficients.proofs.rows.Tie as tie
 
@@ -19,7 +19,7 @@ put-rows-requires-4 : tie.Need-put-rows-requires-4
 put-rows-requires-4 c κs = search rules
 
 returns : tie.Need-returns
-returns c = all-filled _ c.put-rows4.ensures
+returns c = all_filled _ c.put-rows4.ensures
 
 pub rows-spec : {M : Type 1} → statement M
 rows-spec = tie.close (tie.spec put-rows-requires put-rows-requires-2 put-rows-requires-3 put-rows-requires-4 returns)

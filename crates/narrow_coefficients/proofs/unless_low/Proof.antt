@@ -5,10 +5,10 @@ use lib.Dec.{lit≤}
 use lib.IntN.{pos}
 use mir.Syntax.{w64}
 use mir.Val.{of_z}
-use Rattle.foundation.specs.Held.{Rep, leaf, mul, mul-fits}
-use Rattle.narrow_volumes.specs.Range.{volumeLimit}
-use Rattle.narrow_volumes.specs.Begun.{corners-stand}
-use Rattle.narrow_coefficients.specs.UnlessLow.{coefficients-are, within-limits, low_small, low_told}
+use Rattle.foundation.specs.Held.{Rep, leaf, mul, mul_fits}
+use Rattle.narrow_volumes.specs.Range.{volume_limit}
+use Rattle.narrow_volumes.specs.Begun.{corners_stand}
+use Rattle.narrow_coefficients.specs.UnlessLow.{coefficients_are, within_limits, low_small, low_told}
 use Rattle.narrow_coefficients.proofs.unless_low.Statement.{statement}
 use Rattle.narrow_coefficients.proofs.unless_low.Tie as tie
 
@@ -20,17 +20,17 @@ module _ (c : tie.Then1) where
   eight : Rep (of_z w64 (pos 8)) (pos 8) 8
   eight = leaf 8 (pos 8) (lit≤ tt) tt
 
-  volume : Rep (of_z w64 c.before.before.first-low.result.value) c.before.before.first-low.result.value volumeLimit
-  volume = let f = c.before.before in leaf volumeLimit f.first-low.result.value (low_small f.first-low.ensures c.if1.true f.before.before.before.requires) tt
+  volume : Rep (of_z w64 c.before.before.first_low_law.result.value) c.before.before.first_low_law.result.value volume_limit
+  volume = let f = c.before.before in leaf volume_limit f.first_low_law.result.value (low_small f.first_low_law.ensures c.if1.true f.before.before.before.requires) tt
 
 mul-t15 : tie.Need-overflow-mul-t15
-mul-t15 c = mul-fits (eight c) (volume c) tt
+mul-t15 c = mul_fits (eight c) (volume c) tt
 
 returns : tie.Need-returns
-returns c = low_told c.before.before.first-low.ensures c.if1.true (mul (eight c) (volume c) tt).value
+returns c = low_told c.before.before.first_low_law.ensures c.if1.true (mul (eight c) (volume c) tt).value
 
 edges-requires : tie.Need-edges-requires
-edges-requires c κs = corners-stand (c.before.before.before.before.first-low.ensures.none c.before.before.if1.false).1
+edges-requires c κs = corners_stand (c.before.before.before.before.first_low_law.ensures.none c.before.before.if1.false).1
 
 lists-requires : tie.Need-lists-requires
 lists-requires c κs = search rules
@@ -40,12 +40,12 @@ abbrev entry : tie.After-edges → tie.Start
 entry e = e.before.before.before.before.before.before.before.before
 
 rows-requires : tie.Need-rows-requires
-rows-requires c κs = let l = c.before.before.before.before.before.before.before in let e = l.before in (l.lists.ensures, within-limits (entry e).requires e.edges.ensures)
+rows-requires c κs = let l = c.before.before.before.before.before.before.before in let e = l.before in (l.lists.ensures, within_limits (entry e).requires e.edges.ensures)
 
 returns-2 : tie.Need-returns-2
 returns-2 c = let e = c.before.before.before.before.before.before.before.before.before in record {
   few = lit≤ tt;
-  none = λ _. (refl, coefficients-are (entry e).args.p.now e.edges.ensures c.rows.ensures);
+  none = λ _. (refl, coefficients_are (entry e).args.p.now e.edges.ensures c.rows.ensures);
   some = λ h. absurd (h refl);
 }
 

@@ -4,7 +4,7 @@ use lib.Signed.{lt_z}
 use Rattle.foundation.specs.Held.{read_back}
 use Rattle.expansion_theory.specs.Estimate.{fall}
 use Rattle.element_vectors.specs.Fitting.{alike}
-use Rattle.element_vectors.specs.Vectors.{vector, vector-within, det-read}
+use Rattle.element_vectors.specs.Vectors.{vector, vector_within, det_read}
 use Rattle.narrow_estimate.specs.Norms.{Given, given}
 use Rattle.narrow_estimate.proofs.exceeds.Statement.{statement}
 use Rattle.narrow_estimate.proofs.exceeds.Tie as tie
@@ -23,20 +23,20 @@ module _ (s : tie.Start) where
   d = given s.pre.deviations
 
 fall-requires : tie.Need-fall-requires
-fall-requires c κs = record { first = vector-within (u c); second = vector-within (v c); third = vector-within (w c); deviations = vector-within (d c) }
+fall-requires c κs = record { first = vector_within (u c); second = vector_within (v c); third = vector_within (w c); deviations = vector_within (d c) }
 
 determinant-requires : tie.Need-determinant-requires
-determinant-requires c κs = let s = c.before in record { sort = alike; first = vector-within (u s); second = vector-within (v s); third = vector-within (w s) }
+determinant-requires c κs = let s = c.before in record { sort = alike; first = vector_within (u s); second = vector_within (v s); third = vector_within (w s) }
 
 returns : tie.Need-returns
 returns c = let f = c.before.fall in let s = c.before.before in
     ap₂ lt_z
     (read_back f.type-inv (f.ensures ∙ λ i. fall
-    (vector ((u s).on-x.value i) ((u s).on-y.value i) ((u s).on-z.value i))
-    (vector ((v s).on-x.value i) ((v s).on-y.value i) ((v s).on-z.value i))
-    (vector ((w s).on-x.value i) ((w s).on-y.value i) ((w s).on-z.value i))
-    ((d s).on-x.value i) ((d s).on-y.value i) ((d s).on-z.value i)))
-    (read_back c.determinant.type-inv (det-read (λ x. x) (u s) (v s) (w s) c.determinant.ensures))
+    (vector ((u s).on_x.value i) ((u s).on_y.value i) ((u s).on_z.value i))
+    (vector ((v s).on_x.value i) ((v s).on_y.value i) ((v s).on_z.value i))
+    (vector ((w s).on_x.value i) ((w s).on_y.value i) ((w s).on_z.value i))
+    ((d s).on_x.value i) ((d s).on_y.value i) ((d s).on_z.value i)))
+    (read_back c.determinant.type-inv (det_read (λ x. x) (u s) (v s) (w s) c.determinant.ensures))
 
 pub exceeds-spec : {M : Type 1} → statement M
 exceeds-spec = tie.close (tie.spec fall-requires determinant-requires returns)

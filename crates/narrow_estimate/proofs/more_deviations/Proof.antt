@@ -5,8 +5,8 @@ use lib.Dec.{T}
 use lib.IntN.{ℤ, pos, nat_abs}
 use mir.Syntax.{w64}
 use mir.Val.{SFits}
-use Rattle.foundation.specs.Words.{Op, lit, times, plus, fits, result, args, split, within-split, result_fits, held-is}
-use Rattle.narrow_estimate.specs.Sizes.{vectorLimit, vectorNorm}
+use Rattle.foundation.specs.Words.{Op, lit, times, plus, fits, result, args, split, within_split, result_fits, held_is}
+use Rattle.narrow_estimate.specs.Sizes.{vector_limit, vector_norm}
 use Rattle.narrow_estimate.specs.Parts.{pair, by, pairs, more}
 use Rattle.narrow_estimate.proofs.more_deviations.Statement.{statement}
 use Rattle.narrow_estimate.proofs.more_deviations.Tie as tie
@@ -21,10 +21,10 @@ abbrev numbers : tie.Start → ℕ → ℤ
 numbers c = args (deviations c ++ norms c)
 
 abbrev limits : ℕ → ℕ
-limits = split 3 vectorLimit vectorNorm
+limits = split 3 vector_limit vector_norm
 
 bounded : (c : tie.Start) (i : ℕ) → nat_abs (numbers c i) ≤ limits i
-bounded c = within-split vectorLimit vectorNorm (deviations c) (norms c) c.requires.0 c.requires.1
+bounded c = within_split vector_limit vector_norm (deviations c) (norms c) c.requires.0 c.requires.1
 
 -- each operation on the six fits
 fit : (c : tie.Start) (o : Op) → T (fits limits o) → SFits w64 (result (numbers c) o)
@@ -70,7 +70,7 @@ add-result-3 : tie.Need-overflow-add-result-3
 add-result-3 c = fit c more tt
 
 returns : tie.Need-returns
-returns c = held-is (numbers c) limits (bounded c) more tt
+returns c = held_is (numbers c) limits (bounded c) more tt
 
 pub more-deviations-spec : {M : Type 1} → statement M
 more-deviations-spec =

@@ -5,8 +5,8 @@ use lib.Dec.{T}
 use lib.IntN.{ℤ, nat_abs}
 use mir.Syntax.{w64}
 use mir.Val.{SFits}
-use Rattle.foundation.specs.Words.{Op, fits, result, args, split, within-split, result_fits, held-is}
-use Rattle.narrow_estimate.specs.Sizes.{vectorLimit, crossNorm}
+use Rattle.foundation.specs.Words.{Op, fits, result, args, split, within_split, result_fits, held_is}
+use Rattle.narrow_estimate.specs.Sizes.{vector_limit, cross_norm}
 use Rattle.narrow_estimate.specs.Parts.{term, two, three}
 use Rattle.narrow_estimate.proofs.one_deviation.Statement.{statement}
 use Rattle.narrow_estimate.proofs.one_deviation.Tie as tie
@@ -21,10 +21,10 @@ abbrev numbers : tie.Start → ℕ → ℤ
 numbers c = args (deviations c ++ norms c)
 
 abbrev limits : ℕ → ℕ
-limits = split 3 vectorLimit crossNorm
+limits = split 3 vector_limit cross_norm
 
 bounded : (c : tie.Start) (i : ℕ) → nat_abs (numbers c i) ≤ limits i
-bounded c = within-split vectorLimit crossNorm (deviations c) (norms c) c.requires.0 c.requires.1
+bounded c = within_split vector_limit cross_norm (deviations c) (norms c) c.requires.0 c.requires.1
 
 -- each operation on the six fits
 fit : (c : tie.Start) (o : Op) → T (fits limits o) → SFits w64 (result (numbers c) o)
@@ -46,7 +46,7 @@ add-result-2 : tie.Need-overflow-add-result-2
 add-result-2 c = fit c three tt
 
 returns : tie.Need-returns
-returns c = held-is (numbers c) limits (bounded c) three tt
+returns c = held_is (numbers c) limits (bounded c) three tt
 
 pub one-deviation-spec : {M : Type 1} → statement M
 one-deviation-spec =

@@ -6,59 +6,59 @@ use lib.IntN.{ℤ}
 use mir.Syntax.{w64}
 use mir.Val.{of_z}
 use Rattle.foundation.specs.Held.{answered}
-use Rattle.definitions.specs.Jacobian.{Nodes, nodesOf}
-use Rattle.expansion_theory.specs.Estimate.{centre, deviation, ofEdges, exceeds, estimate}
-use Rattle.element_vectors.specs.Vectors.{vector, HeldVector, vector-within}
-use Rattle.narrow_estimate.specs.Sizes.{vectorLimit, centre-small, deviation-small}
+use Rattle.definitions.specs.Jacobian.{Nodes, nodes_of}
+use Rattle.expansion_theory.specs.Estimate.{centre, deviation, of_edges, exceeds, estimate}
+use Rattle.element_vectors.specs.Vectors.{vector, HeldVector, vector_within}
+use Rattle.narrow_estimate.specs.Sizes.{vector_limit, centre_small, deviation_small}
 use Rattle.narrow_estimate.proofs.sound.Statement.{statement}
 use Rattle.narrow_estimate.proofs.sound.Tie as tie
 
 abbrev nodes : tie.Start → Nodes ℤ
-nodes s = nodesOf s.args.p.now
+nodes s = nodes_of s.args.p.now
 
 -- the entry as seen after the calls for each direction, and what they give
 module _ (c : tie.After-centre3) where
   abbrev entry-1 : tie.Start
   entry-1 = c.before.before.before
 
-  u : HeldVector vectorLimit (of_z w64 c.before.before.centre.result) (of_z w64 c.before.centre2.result) (of_z w64 c.centre3.result) (ofEdges (nodes entry-1) centre 0)
-  u = let small = centre-small entry-1.pre 0 in record {
-    on-x = answered vectorLimit c.before.before.centre.ensures (small 0 (omega arith)) tt;
-    on-y = answered vectorLimit c.before.centre2.ensures (small 1 (omega arith)) tt;
-    on-z = answered vectorLimit c.centre3.ensures (small 2 (omega arith)) tt;
+  u : HeldVector vector_limit (of_z w64 c.before.before.centre.result) (of_z w64 c.before.centre2.result) (of_z w64 c.centre3.result) (of_edges (nodes entry-1) centre 0)
+  u = let small = centre_small entry-1.pre 0 in record {
+    on_x = answered vector_limit c.before.before.centre.ensures (small 0 (omega arith)) tt;
+    on_y = answered vector_limit c.before.centre2.ensures (small 1 (omega arith)) tt;
+    on_z = answered vector_limit c.centre3.ensures (small 2 (omega arith)) tt;
   }
 
 module _ (c : tie.After-centre6) where
   abbrev entry-2 : tie.Start
   entry-2 = entry-1 c.before.before.before
 
-  v : HeldVector vectorLimit (of_z w64 c.before.before.centre4.result) (of_z w64 c.before.centre5.result) (of_z w64 c.centre6.result) (ofEdges (nodes entry-2) centre 1)
-  v = let small = centre-small entry-2.pre 1 in record {
-    on-x = answered vectorLimit c.before.before.centre4.ensures (small 0 (omega arith)) tt;
-    on-y = answered vectorLimit c.before.centre5.ensures (small 1 (omega arith)) tt;
-    on-z = answered vectorLimit c.centre6.ensures (small 2 (omega arith)) tt;
+  v : HeldVector vector_limit (of_z w64 c.before.before.centre4.result) (of_z w64 c.before.centre5.result) (of_z w64 c.centre6.result) (of_edges (nodes entry-2) centre 1)
+  v = let small = centre_small entry-2.pre 1 in record {
+    on_x = answered vector_limit c.before.before.centre4.ensures (small 0 (omega arith)) tt;
+    on_y = answered vector_limit c.before.centre5.ensures (small 1 (omega arith)) tt;
+    on_z = answered vector_limit c.centre6.ensures (small 2 (omega arith)) tt;
   }
 
 module _ (c : tie.After-centre9) where
   abbrev entry-3 : tie.Start
   entry-3 = entry-2 c.before.before.before
 
-  w : HeldVector vectorLimit (of_z w64 c.before.before.centre7.result) (of_z w64 c.before.centre8.result) (of_z w64 c.centre9.result) (ofEdges (nodes entry-3) centre 2)
-  w = let small = centre-small entry-3.pre 2 in record {
-    on-x = answered vectorLimit c.before.before.centre7.ensures (small 0 (omega arith)) tt;
-    on-y = answered vectorLimit c.before.centre8.ensures (small 1 (omega arith)) tt;
-    on-z = answered vectorLimit c.centre9.ensures (small 2 (omega arith)) tt;
+  w : HeldVector vector_limit (of_z w64 c.before.before.centre7.result) (of_z w64 c.before.centre8.result) (of_z w64 c.centre9.result) (of_edges (nodes entry-3) centre 2)
+  w = let small = centre_small entry-3.pre 2 in record {
+    on_x = answered vector_limit c.before.before.centre7.ensures (small 0 (omega arith)) tt;
+    on_y = answered vector_limit c.before.centre8.ensures (small 1 (omega arith)) tt;
+    on_z = answered vector_limit c.centre9.ensures (small 2 (omega arith)) tt;
   }
 
 module _ (c : tie.After-deviation3) where
   abbrev entry-4 : tie.Start
   entry-4 = entry-3 c.before.before.before
 
-  d : HeldVector vectorLimit (of_z w64 c.before.before.deviation.result) (of_z w64 c.before.deviation2.result) (of_z w64 c.deviation3.result) (ofEdges (nodes entry-4) deviation)
-  d = let small = deviation-small entry-4.pre in record {
-    on-x = answered vectorLimit c.before.before.deviation.ensures (small 0) tt;
-    on-y = answered vectorLimit c.before.deviation2.ensures (small 1) tt;
-    on-z = answered vectorLimit c.deviation3.ensures (small 2) tt;
+  d : HeldVector vector_limit (of_z w64 c.before.before.deviation.result) (of_z w64 c.before.deviation2.result) (of_z w64 c.deviation3.result) (of_edges (nodes entry-4) deviation)
+  d = let small = deviation_small entry-4.pre in record {
+    on_x = answered vector_limit c.before.before.deviation.ensures (small 0) tt;
+    on_y = answered vector_limit c.before.deviation2.ensures (small 1) tt;
+    on_z = answered vector_limit c.deviation3.ensures (small 2) tt;
   }
 
 centre-requires : tie.Need-centre-requires
@@ -99,7 +99,7 @@ deviation-requires-3 c κs = search rules
 
 exceeds-requires : tie.Need-exceeds-requires
 exceeds-requires c κs = let c9 = c.before.before.before in let c6 = c9.before.before.before in
-    record { first = vector-within (u c6.before.before.before); second = vector-within (v c6); third = vector-within (w c9); deviations = vector-within (d c) }
+    record { first = vector_within (u c6.before.before.before); second = vector_within (v c6); third = vector_within (w c9); deviations = vector_within (d c) }
 
 returns : tie.Need-returns
 unfolding estimate
@@ -109,10 +109,10 @@ returns c =
     let c6 = c9.before.before.before in
     let c3 = c6.before.before.before in
     c.exceeds.ensures ∙ λ i. exceeds
-    (vector ((u c3).on-x.value i) ((u c3).on-y.value i) ((u c3).on-z.value i))
-    (vector ((v c6).on-x.value i) ((v c6).on-y.value i) ((v c6).on-z.value i))
-    (vector ((w c9).on-x.value i) ((w c9).on-y.value i) ((w c9).on-z.value i))
-    ((d c12).on-x.value i) ((d c12).on-y.value i) ((d c12).on-z.value i)
+    (vector ((u c3).on_x.value i) ((u c3).on_y.value i) ((u c3).on_z.value i))
+    (vector ((v c6).on_x.value i) ((v c6).on_y.value i) ((v c6).on_z.value i))
+    (vector ((w c9).on_x.value i) ((w c9).on_y.value i) ((w c9).on_z.value i))
+    ((d c12).on_x.value i) ((d c12).on_y.value i) ((d c12).on_z.value i)
 
 pub sound-spec : {M : Type 1} → statement M
 sound-spec =

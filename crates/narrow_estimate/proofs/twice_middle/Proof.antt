@@ -5,10 +5,10 @@ use lib.IntN.{ℤ}
 use mir.Syntax.{w64}
 use mir.Val.{to_z, of_z}
 use mir.Facts.{to_z-of_z}
-use Rattle.foundation.specs.Held.{Rep, answered, add, add-fits}
+use Rattle.foundation.specs.Held.{Rep, answered, add, add_fits}
 use Rattle.expansion_theory.specs.Estimate.{least, largest}
 use Rattle.element_vectors.specs.Range.{narrowExtent}
-use Rattle.narrow_estimate.specs.Sizes.{least-small, largest-small}
+use Rattle.narrow_estimate.specs.Sizes.{least_small, largest_small}
 use Rattle.narrow_estimate.proofs.twice_middle.Statement.{statement}
 use Rattle.narrow_estimate.proofs.twice_middle.Tie as tie
 
@@ -22,10 +22,10 @@ module _ (c : tie.After-largest) where
   s = c.before.before
 
   first : Rep (of_z w64 c.before.least.result) (least s.args.a s.args.b s.args.c s.args.d) narrowExtent
-  first = answered narrowExtent (c.before.least.ensures ∙ handed s least) (least-small narrowExtent s.args.a s.args.b s.args.c s.args.d s.pre) tt
+  first = answered narrowExtent (c.before.least.ensures ∙ handed s least) (least_small narrowExtent s.args.a s.args.b s.args.c s.args.d s.pre) tt
 
   second : Rep (of_z w64 c.largest.result) (largest s.args.a s.args.b s.args.c s.args.d) narrowExtent
-  second = answered narrowExtent (c.largest.ensures ∙ handed s largest) (largest-small narrowExtent s.args.a s.args.b s.args.c s.args.d s.pre) tt
+  second = answered narrowExtent (c.largest.ensures ∙ handed s largest) (largest_small narrowExtent s.args.a s.args.b s.args.c s.args.d s.pre) tt
 
 least-requires : tie.Need-least-requires
 least-requires c κs = search rules
@@ -34,7 +34,7 @@ largest-requires : tie.Need-largest-requires
 largest-requires c κs = search rules
 
 add-result : tie.Need-overflow-add-result
-add-result c = add-fits (first c) (second c) tt
+add-result c = add_fits (first c) (second c) tt
 
 returns : tie.Need-returns
 returns c = (add (first c) (second c) tt).value

@@ -5,10 +5,10 @@ use lib.IntN.{ℤ}
 use mir.Syntax.{w64}
 use mir.Val.{to_z, of_z}
 use mir.Facts.{to_z-of_z}
-use Rattle.foundation.specs.Held.{Rep, answered, sub, sub-fits}
+use Rattle.foundation.specs.Held.{Rep, answered, sub, sub_fits}
 use Rattle.expansion_theory.specs.Estimate.{least, largest}
 use Rattle.element_vectors.specs.Range.{narrowExtent}
-use Rattle.narrow_estimate.specs.Sizes.{least-small, largest-small}
+use Rattle.narrow_estimate.specs.Sizes.{least_small, largest_small}
 use Rattle.narrow_estimate.proofs.width.Statement.{statement}
 use Rattle.narrow_estimate.proofs.width.Tie as tie
 
@@ -22,10 +22,10 @@ module _ (c : tie.After-least) where
   s = c.before.before
 
   first : Rep (of_z w64 c.before.largest.result) (largest s.args.a s.args.b s.args.c s.args.d) narrowExtent
-  first = answered narrowExtent (c.before.largest.ensures ∙ handed s largest) (largest-small narrowExtent s.args.a s.args.b s.args.c s.args.d s.pre) tt
+  first = answered narrowExtent (c.before.largest.ensures ∙ handed s largest) (largest_small narrowExtent s.args.a s.args.b s.args.c s.args.d s.pre) tt
 
   second : Rep (of_z w64 c.least.result) (least s.args.a s.args.b s.args.c s.args.d) narrowExtent
-  second = answered narrowExtent (c.least.ensures ∙ handed s least) (least-small narrowExtent s.args.a s.args.b s.args.c s.args.d s.pre) tt
+  second = answered narrowExtent (c.least.ensures ∙ handed s least) (least_small narrowExtent s.args.a s.args.b s.args.c s.args.d s.pre) tt
 
 largest-requires : tie.Need-largest-requires
 largest-requires c κs = search rules
@@ -34,7 +34,7 @@ least-requires : tie.Need-least-requires
 least-requires c κs = search rules
 
 sub-result : tie.Need-overflow-sub-result
-sub-result c = sub-fits (first c) (second c) tt
+sub-result c = sub_fits (first c) (second c) tt
 
 returns : tie.Need-returns
 returns c = (sub (first c) (second c) tt).value

@@ -10,20 +10,20 @@ use mir.Val.{of_z}
 use Rattle.foundation.specs.Polynomial.{integers}
 use Rattle.foundation.specs.Words.{Within}
 use Rattle.foundation.specs.Held.{Rep, answered, small, read_back}
-use Rattle.definitions.specs.Jacobian.{nodesOf}
+use Rattle.definitions.specs.Jacobian.{nodes_of}
 use Rattle.definitions.specs.Coefficients.{edge}
 use Rattle.expansion_theory.specs.Estimate.{width}
 use Rattle.element_vectors.specs.Range.{narrowExtent}
-use Rattle.narrow_estimate.specs.Sizes.{four-near}
+use Rattle.narrow_estimate.specs.Sizes.{four_near}
 use Rattle.narrow_estimate.proofs.width_on.Statement.{statement}
 use Rattle.narrow_estimate.proofs.width_on.Tie as tie
 
 module _ (s : tie.Start) where
   abbrev from : ℕ → ℕ → ℤ
-  from a b = edge integers (nodesOf s.args.p.now) a b s.args.e
+  from a b = edge integers (nodes_of s.args.p.now) a b s.args.e
 
   near : Within narrowExtent (from s.args.a s.args.b ∷ from s.args.c s.args.d ∷ from s.args.f s.args.g ∷ from s.args.h s.args.i ∷ [])
-  near = four-near s.pre.0 s.args.a s.args.b s.args.c s.args.d s.args.f s.args.g s.args.h s.args.i (omega arith) s.args.e (omega arith)
+  near = four_near s.pre.0 s.args.a s.args.b s.args.c s.args.d s.args.f s.args.g s.args.h s.args.i (omega arith) s.args.e (omega arith)
 
 module _ (c : tie.After-edge4) where
   abbrev s : tie.Start

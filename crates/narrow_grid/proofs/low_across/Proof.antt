@@ -7,14 +7,14 @@ use lib.IntN.{ℤ, nat_abs}
 use mir.Syntax.{w64}
 use mir.ValLaws.{to_z-of_z}
 use Rattle.foundation.specs.Words.{args}
-use Rattle.search_theory.specs.Grid.{lowInRow, middles-fit}
-use Rattle.narrow_rows.specs.Word.{largest, cutLargest}
+use Rattle.search_theory.specs.Grid.{low_in_row, middles_fit}
+use Rattle.narrow_rows.specs.Word.{largest, cut_largest}
 use borrow.Author.Rules.{rules}
 use Rattle.narrow_grid.proofs.low_across.Statement.{statement}
 use Rattle.narrow_grid.proofs.low_across.Tie as tie
 
 abbrev Cut : ℤ → Type 0
-Cut z = nat_abs z ≤ cutLargest
+Cut z = nat_abs z ≤ cut_largest
 
 middle-at-requires : tie.Need-middle-at-requires
 middle-at-requires c κs = search rules
@@ -26,11 +26,11 @@ middle-at-requires-3 : tie.Need-middle-at-requires-3
 middle-at-requires-3 c κs = search rules
 
 low-in-row-requires : tie.Need-low-in-row-requires
-low-in-row-requires c κs = let s = c.before.before.before in let fit = middles-fit largest cutLargest (λ n h. omega arith) s.args.g.now s.requires.0 s.args.a s.args.b s.args.c s.args.d s.args.e s.args.f s.args.x s.args.y s.args.z in
+low-in-row-requires c κs = let s = c.before.before.before in let fit = middles_fit largest cut_largest (λ n h. omega arith) s.args.g.now s.requires.0 s.args.a s.args.b s.args.c s.args.d s.args.e s.args.f s.args.x s.args.y s.args.z in
     (subst Cut (sym (to_z-of_z w64 c.before.before.middle-at.result (record { sfits = c.before.before.middle-at.type-inv }) ∙ c.before.before.middle-at.ensures)) fit.0, (subst Cut (sym (to_z-of_z w64 c.before.middle-at2.result (record { sfits = c.before.middle-at2.type-inv }) ∙ c.before.middle-at2.ensures)) fit.1.0, (subst Cut (sym (to_z-of_z w64 c.middle-at3.result (record { sfits = c.middle-at3.type-inv }) ∙ c.middle-at3.ensures)) fit.1.1.0, tt)))
 
 returns : tie.Need-returns
-returns c = c.low-in-row.ensures ∙ (λ i. lowInRow (args ((to_z-of_z w64 c.before.before.before.middle-at.result (record { sfits = c.before.before.before.middle-at.type-inv }) ∙ c.before.before.before.middle-at.ensures) i ∷ (to_z-of_z w64 c.before.before.middle-at2.result (record { sfits = c.before.before.middle-at2.type-inv }) ∙ c.before.before.middle-at2.ensures) i ∷ (to_z-of_z w64 c.before.middle-at3.result (record { sfits = c.before.middle-at3.type-inv }) ∙ c.before.middle-at3.ensures) i ∷ [])))
+returns c = c.low-in-row.ensures ∙ (λ i. low_in_row (args ((to_z-of_z w64 c.before.before.before.middle-at.result (record { sfits = c.before.before.before.middle-at.type-inv }) ∙ c.before.before.before.middle-at.ensures) i ∷ (to_z-of_z w64 c.before.before.middle-at2.result (record { sfits = c.before.before.middle-at2.type-inv }) ∙ c.before.before.middle-at2.ensures) i ∷ (to_z-of_z w64 c.before.middle-at3.result (record { sfits = c.before.middle-at3.type-inv }) ∙ c.before.middle-at3.ensures) i ∷ [])))
 
 pub low-across-spec : {M : Type 1} → statement M
 low-across-spec =

@@ -5,9 +5,9 @@ use native.Mathlib.Omega.{arith}
 use lib.IntN.{ℤ}
 use Rattle.foundation.specs.Words.{args, Within}
 use Rattle.expansion_theory.specs.Rows.{line_at}
-use Rattle.search_theory.specs.Grid.{lowInRow, line-fits}
-use Rattle.narrow_rows.specs.Word.{largest, cutLargest}
-use Rattle.narrow_rows.specs.Read.{row_back, read-within}
+use Rattle.search_theory.specs.Grid.{low_in_row, line_fits}
+use Rattle.narrow_rows.specs.Word.{largest, cut_largest}
+use Rattle.narrow_rows.specs.Read.{row_back, read_within}
 use borrow.Author.Rules.{rules}
 use Rattle.narrow_grid.proofs.low_at.Statement.{statement}
 use Rattle.narrow_grid.proofs.low_at.Tie as tie
@@ -16,8 +16,8 @@ module _ (s : tie.Start) where
   abbrev row : List ℤ
   row = line_at s.args.g.now s.args.x s.args.y s.args.z
 
-  fits : Within cutLargest row
-  fits = line-fits largest cutLargest (λ n h. omega arith) s.args.g.now s.pre.0 s.args.x s.args.y s.args.z
+  fits : Within cut_largest row
+  fits = line_fits largest cut_largest (λ n h. omega arith) s.args.g.now s.pre.0 s.args.x s.args.y s.args.z
 
 mul-p : tie.Need-overflow-mul-p
 mul-p c = search rules
@@ -38,10 +38,10 @@ element-copy-out-r : tie.Need-element-copy-out-r
 element-copy-out-r c = search rules
 
 low-in-row-requires : tie.Need-low-in-row-requires
-low-in-row-requires c κs = let s = c.before.before.before in read-within (row s) (fits s)
+low-in-row-requires c κs = let s = c.before.before.before in read_within (row s) (fits s)
 
 returns : tie.Need-returns
-returns c = let s = c.before.before.before.before in c.low-in-row.ensures ∙ ap (λ (xs : List ℤ). lowInRow (args xs)) (row_back (row s) (fits s))
+returns c = let s = c.before.before.before.before in c.low-in-row.ensures ∙ ap (λ (xs : List ℤ). low_in_row (args xs)) (row_back (row s) (fits s))
 
 pub low-at-spec : {M : Type 1} → statement M
 low-at-spec =

@@ -7,14 +7,14 @@ use lib.IntN.{ℤ, nat_abs}
 use mir.Syntax.{w64}
 use mir.ValLaws.{to_z-of_z}
 use Rattle.foundation.specs.Words.{args}
-use Rattle.search_theory.specs.Grid.{middle, middles-fit}
-use Rattle.narrow_rows.specs.Word.{largest, cutLargest}
+use Rattle.search_theory.specs.Grid.{middle, middles_fit}
+use Rattle.narrow_rows.specs.Word.{largest, cut_largest}
 use borrow.Author.Rules.{rules}
 use Rattle.narrow_grid.proofs.middle_across.Statement.{statement}
 use Rattle.narrow_grid.proofs.middle_across.Tie as tie
 
 abbrev Cut : ℤ → Type 0
-Cut z = nat_abs z ≤ cutLargest
+Cut z = nat_abs z ≤ cut_largest
 
 middle-at-requires : tie.Need-middle-at-requires
 middle-at-requires c κs = search rules
@@ -26,7 +26,7 @@ middle-at-requires-3 : tie.Need-middle-at-requires-3
 middle-at-requires-3 c κs = search rules
 
 end-requires : tie.Need-end-requires
-end-requires c κs = let s = c.before.before.before in let fit = middles-fit largest cutLargest (λ n h. omega arith) s.args.g.now s.requires.0 s.args.a s.args.b s.args.c s.args.d s.args.e s.args.f s.args.x s.args.y s.args.z in
+end-requires c κs = let s = c.before.before.before in let fit = middles_fit largest cut_largest (λ n h. omega arith) s.args.g.now s.requires.0 s.args.a s.args.b s.args.c s.args.d s.args.e s.args.f s.args.x s.args.y s.args.z in
     (subst Cut (sym (to_z-of_z w64 c.before.before.middle-at.result (record { sfits = c.before.before.middle-at.type-inv }) ∙ c.before.before.middle-at.ensures)) fit.0, (subst Cut (sym (to_z-of_z w64 c.before.middle-at2.result (record { sfits = c.before.middle-at2.type-inv }) ∙ c.before.middle-at2.ensures)) fit.1.0, (subst Cut (sym (to_z-of_z w64 c.middle-at3.result (record { sfits = c.middle-at3.type-inv }) ∙ c.middle-at3.ensures)) fit.1.1.0, tt)))
 
 returns : tie.Need-returns

@@ -7,9 +7,9 @@ use mir.Syntax.{w64}
 use mir.ValLaws.{to_z-of_z}
 use Rattle.foundation.specs.Words.{args, Within}
 use Rattle.expansion_theory.specs.Rows.{line_at}
-use Rattle.search_theory.specs.Grid.{middle, line-fits}
-use Rattle.narrow_rows.specs.Word.{largest, cutLargest}
-use Rattle.narrow_rows.specs.Read.{row_back, read-within}
+use Rattle.search_theory.specs.Grid.{middle, line_fits}
+use Rattle.narrow_rows.specs.Word.{largest, cut_largest}
+use Rattle.narrow_rows.specs.Read.{row_back, read_within}
 use borrow.Author.Rules.{rules}
 use Rattle.narrow_grid.proofs.middle_at.Statement.{statement}
 use Rattle.narrow_grid.proofs.middle_at.Tie as tie
@@ -18,8 +18,8 @@ module _ (s : tie.Start) where
   abbrev row : List ℤ
   row = line_at s.args.g.now s.args.x s.args.y s.args.z
 
-  fits : Within cutLargest row
-  fits = line-fits largest cutLargest (λ n h. omega arith) s.args.g.now s.pre.0 s.args.x s.args.y s.args.z
+  fits : Within cut_largest row
+  fits = line_fits largest cut_largest (λ n h. omega arith) s.args.g.now s.pre.0 s.args.x s.args.y s.args.z
 
 mul-p : tie.Need-overflow-mul-p
 mul-p c = search rules
@@ -40,7 +40,7 @@ element-copy-out-r : tie.Need-element-copy-out-r
 element-copy-out-r c = search rules
 
 end-requires : tie.Need-end-requires
-end-requires c κs = let s = c.before.before.before in read-within (row s) (fits s)
+end-requires c κs = let s = c.before.before.before in read_within (row s) (fits s)
 
 returns : tie.Need-returns
 returns c = let s = c.before.before.before.before in to_z-of_z w64 c.end.result (record { sfits = c.end.type-inv }) ∙ c.end.ensures ∙ ap (λ (xs : List ℤ). middle (args xs)) (row_back (row s) (fits s))

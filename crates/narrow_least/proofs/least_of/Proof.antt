@@ -2,7 +2,7 @@
 use mathlib.Core.Path.{◌∙◌}
 use mir.Syntax.{w64}
 use mir.ValLaws.{to_z-of_z}
-use Rattle.definitions.specs.Eighths.{eighthOf}
+use Rattle.definitions.specs.Eighths.{eighth_of}
 use borrow.Author.Rules.{rules}
 use Rattle.narrow_least.proofs.least_of.Statement.{statement}
 use Rattle.narrow_least.proofs.least_of.Tie as tie

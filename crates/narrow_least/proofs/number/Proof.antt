@@ -8,7 +8,7 @@ use lib.IntN.{pos}
 use lib.Signed.{le_z}
 use mir.Syntax.{w64}
 use mir.ValLaws.{to_z-of_z}
-use Rattle.search_theory.specs.Eighths.{Above, above-none, above-here, above_on, above-all}
+use Rattle.search_theory.specs.Eighths.{Above, above_none, above_here, above_on, above_all}
 use Rattle.narrow_least.proofs.number.Statement.{statement}
 use Rattle.narrow_least.proofs.number.Tie as tie
 
@@ -19,7 +19,7 @@ abbrev decreases-loop : tie.decreases-loop
 decreases-loop g v k₀ k = 27 - k
 
 loop-holds : tie.Need-loop-init invariant-loop decreases-loop
-loop-holds c = above-none c.args.g.now
+loop-holds c = above_none c.args.g.now
 
 mul-x : tie.Need-overflow-mul-x invariant-loop decreases-loop
 mul-x c = search rules
@@ -33,7 +33,7 @@ add-result c = search rules
 returns : tie.Need-returns invariant-loop decreases-loop
 returns c = let l = c.before.before.before in let s = l.before in let g = s.args.g.now in
     let x = to_z-of_z w64 (get_or g l.loop.k (pos 0)) (record { sfits = c.before.x.given }) in let least = to_z-of_z w64 s.args.v s.ranges.v ∙ s.requires.1 in
-    above-here g s.requires.0 (omega arith) l.loop.invariant (sym (ap₂ le_z x least) ∙ c.if1.true)
+    above_here g s.requires.0 (omega arith) l.loop.invariant (sym (ap₂ le_z x least) ∙ c.if1.true)
 
 add-k : tie.Need-overflow-add-k invariant-loop decreases-loop
 add-k c = search rules
@@ -47,7 +47,7 @@ loop-again c = let l = c.before.before.before in let s = l.before in let g = s.a
     above_on g (omega arith) l.loop.invariant (sym (ap₂ le_z x least) ∙ c.if1.false)
 
 returns-2 : tie.Need-returns-2 invariant-loop decreases-loop
-returns-2 c = let l = c.before in let s = l.before in absurd (above-all s.args.g.now s.requires.0 l.loop.invariant (omega arith))
+returns-2 c = let l = c.before in let s = l.before in absurd (above_all s.args.g.now s.requires.0 l.loop.invariant (omega arith))
 
 pub number-spec : {M : Type 1} → statement M
 number-spec =

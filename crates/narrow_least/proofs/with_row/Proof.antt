@@ -6,7 +6,7 @@ use mir.Syntax.{w64}
 use mir.Val.{to_z, of_z}
 use mir.ValLaws.{to_z-of_z}
 use Rattle.foundation.specs.Least.{lesser}
-use Rattle.search_theory.specs.Eighths.{with-three}
+use Rattle.search_theory.specs.Eighths.{with_three}
 use borrow.Author.Rules.{rules}
 use Rattle.narrow_least.proofs.with_row.Statement.{statement}
 use Rattle.narrow_least.proofs.with_row.Tie as tie
@@ -48,7 +48,7 @@ returns c =
     let v = to_z-of_z w64 s.args.v s.ranges.v in
     let first = to_z-of_z w64 c.before.before.lesser.result (record { sfits = c.before.before.lesser.type-inv }) ∙ c.before.before.lesser.ensures ∙ ap₂ lesser p q in
     let both = to_z-of_z w64 c.before.lesser2.result (record { sfits = c.before.lesser2.type-inv }) ∙ c.before.lesser2.ensures ∙ ap₂ lesser first r in
-    to_z-of_z w64 c.lesser3.result (record { sfits = c.lesser3.type-inv }) ∙ c.lesser3.ensures ∙ ap₂ lesser v both ∙ with-three s.args.v (get_or g s.args.x (pos 0)) (get_or g s.args.y (pos 0)) (get_or g s.args.z (pos 0))
+    to_z-of_z w64 c.lesser3.result (record { sfits = c.lesser3.type-inv }) ∙ c.lesser3.ensures ∙ ap₂ lesser v both ∙ with_three s.args.v (get_or g s.args.x (pos 0)) (get_or g s.args.y (pos 0)) (get_or g s.args.z (pos 0))
 
 pub with-row-spec : {M : Type 1} → statement M
 with-row-spec =

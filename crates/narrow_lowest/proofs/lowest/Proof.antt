@@ -8,7 +8,7 @@ use lib.IntN.{ℤ, pos}
 use lib.Signed.{le_z}
 use mir.Syntax.{w64}
 use mir.ValLaws.{to_z-of_z}
-use Rattle.search_theory.specs.Lowest.{Passed, passed_none, passed_here, passed_on, passed-all}
+use Rattle.search_theory.specs.Lowest.{Passed, passed_none, passed_here, passed_on, passed_all}
 use Rattle.narrow_lowest.proofs.lowest.Statement.{statement}
 use Rattle.narrow_lowest.proofs.lowest.Tie as tie
 
@@ -45,7 +45,7 @@ loop-again c = let l = c.before.before.before in let g = l.before.args.g.now in
     passed_on g (omega arith) l.loop.invariant (sym (ap (λ (z : ℤ). le_z z (pos 0)) (to_z-of_z w64 (get_or g l.loop.k (pos 0)) (record { sfits = c.before.v.given }))) ∙ c.if1.false)
 
 returns-2 : tie.Need-returns-2 invariant-loop decreases-loop
-returns-2 c = let l = c.before in (passed-all l.before.args.g.now l.loop.invariant (omega arith), omega arith)
+returns-2 c = let l = c.before in (passed_all l.before.args.g.now l.loop.invariant (omega arith), omega arith)
 
 pub lowest-spec : {M : Type 1} → statement M
 lowest-spec =

@@ -7,11 +7,11 @@ use lib.IntN.{ℤ}
 use mir.Facts.{to_z-of_z}
 use Rattle.foundation.specs.Polynomial.{integers}
 use Rattle.foundation.specs.Words.{args, Within}
-use Rattle.definitions.specs.Subdivision.{cutRow}
-use Rattle.expansion_theory.specs.Rows.{line_at, putRow}
-use Rattle.expansion_theory.specs.RowLaws.{row_small, row-held}
-use Rattle.narrow_rows.specs.Word.{cutLargest}
-use Rattle.narrow_rows.specs.Read.{back, row_back, read-within, line-within}
+use Rattle.definitions.specs.Subdivision.{cut_row}
+use Rattle.expansion_theory.specs.Rows.{line_at, put_row}
+use Rattle.expansion_theory.specs.RowLaws.{row_small, row_held}
+use Rattle.narrow_rows.specs.Word.{cut_largest}
+use Rattle.narrow_rows.specs.Read.{back, row_back, read_within, line_within}
 use borrow.Author.Rules.{rules}
 use Rattle.narrow_rows.proofs.lower_row.Statement.{statement}
 use Rattle.narrow_rows.proofs.lower_row.Tie as tie
@@ -23,15 +23,15 @@ module _ (s : tie.Start) where
   abbrev row : List ℤ
   row = line_at s.args.c.now s.args.x s.args.y s.args.z
 
-  fits : Within cutLargest row
-  fits = line-within s.pre.1 s.args.x s.args.y s.args.z
+  fits : Within cut_largest row
+  fits = line_within s.pre.1 s.args.x s.args.y s.args.z
 
   -- the row as it is read
-  row_read : Within cutLargest (map back row)
-  row_read = read-within row fits
+  row_read : Within cut_largest (map back row)
+  row_read = read_within row fits
 
-  cut : (t : ℕ) → cutRow integers 0 (args (map back row)) t ≡ cutRow integers 0 (args row) t
-  cut t = ap (λ (xs : List ℤ). cutRow integers 0 (args xs) t) (row_back row fits)
+  cut : (t : ℕ) → cut_row integers 0 (args (map back row)) t ≡ cut_row integers 0 (args row) t
+  cut t = ap (λ (xs : List ℤ). cut_row integers 0 (args xs) t) (row_back row fits)
 
 mul-p : tie.Need-overflow-mul-p
 mul-p c = let h = small c in search rules
@@ -64,12 +64,12 @@ put-row-requires : tie.Need-put-row-requires
 put-row-requires c κs = let s = c.before.before.before.before.before.before.before in let k = small s in (k.0, k.1, k.2, s.requires.1.sized)
 
 returns : tie.Need-returns
-unfolding putRow
+unfolding put_row
 returns c = let e = c.before.before in let s = e.before.before.before.before.before.before in
     let u = to_z-of_z (record { sfits = e.before.before.start.type-inv }) ∙ e.before.before.start.ensures ∙ cut s 0 in
     let v = to_z-of_z (record { sfits = e.before.middle.type-inv }) ∙ e.before.middle.ensures ∙ cut s 1 in
     let w = to_z-of_z (record { sfits = e.end.type-inv }) ∙ e.end.ensures ∙ cut s 2 in
-    row-held s.requires.0 s.requires.1 (c.put-row.ensures ∙ (λ i. set (set (set s.args.out.now s.args.x (u i)) s.args.y (v i)) s.args.z (w i)))
+    row_held s.requires.0 s.requires.1 (c.put-row.ensures ∙ (λ i. set (set (set s.args.out.now s.args.x (u i)) s.args.y (v i)) s.args.z (w i)))
 
 pub lower-row-spec : {M : Type 1} → statement M
 lower-row-spec =

@@ -7,11 +7,11 @@ use lib.IntN.{ℤ, pos}
 use mir.Facts.{to_z-of_z}
 use Rattle.foundation.specs.Polynomial.{integers}
 use Rattle.foundation.specs.Words.{args, Within}
-use Rattle.definitions.specs.Subdivision.{cutRow}
-use Rattle.expansion_theory.specs.Rows.{line_at, putRow}
-use Rattle.expansion_theory.specs.RowLaws.{row_small, row-held, turned-start, turned-middle, turned-end}
-use Rattle.narrow_rows.specs.Word.{cutLargest}
-use Rattle.narrow_rows.specs.Read.{back, row_back, read-within, line-within}
+use Rattle.definitions.specs.Subdivision.{cut_row}
+use Rattle.expansion_theory.specs.Rows.{line_at, put_row}
+use Rattle.expansion_theory.specs.RowLaws.{row_small, row_held, turned_start, turned_middle, turned_end}
+use Rattle.narrow_rows.specs.Word.{cut_largest}
+use Rattle.narrow_rows.specs.Read.{back, row_back, read_within, line_within}
 use borrow.Author.Rules.{rules}
 use Rattle.narrow_rows.proofs.upper_row.Statement.{statement}
 use Rattle.narrow_rows.proofs.upper_row.Tie as tie
@@ -23,8 +23,8 @@ module _ (s : tie.Start) where
   abbrev row : List ℤ
   row = line_at s.args.c.now s.args.x s.args.y s.args.z
 
-  fits : Within cutLargest row
-  fits = line-within s.pre.1 s.args.x s.args.y s.args.z
+  fits : Within cut_largest row
+  fits = line_within s.pre.1 s.args.x s.args.y s.args.z
 
   abbrev p : ℤ
   p = back (get_or s.args.c.now s.args.x (pos 0))
@@ -36,11 +36,11 @@ module _ (s : tie.Start) where
   r = back (get_or s.args.c.now s.args.z (pos 0))
 
   -- the row as it is read, turned round
-  turned-read : Within cutLargest (r ∷ q ∷ p ∷ [])
-  turned-read = let w = read-within row fits in (w.1.1.0, (w.1.0, (w.0, tt)))
+  turned_read : Within cut_largest (r ∷ q ∷ p ∷ [])
+  turned_read = let w = read_within row fits in (w.1.1.0, (w.1.0, (w.0, tt)))
 
-  cut : (t : ℕ) → cutRow integers 1 (args (map back row)) t ≡ cutRow integers 1 (args row) t
-  cut t = ap (λ (xs : List ℤ). cutRow integers 1 (args xs) t) (row_back row fits)
+  cut : (t : ℕ) → cut_row integers 1 (args (map back row)) t ≡ cut_row integers 1 (args row) t
+  cut t = ap (λ (xs : List ℤ). cut_row integers 1 (args xs) t) (row_back row fits)
 
 mul-p : tie.Need-overflow-mul-p
 mul-p c = let h = small c in search rules
@@ -61,24 +61,24 @@ element-copy-out-r : tie.Need-element-copy-out-r
 element-copy-out-r c = (small c.before.before).2
 
 end-requires : tie.Need-end-requires
-end-requires c κs = turned-read c.before.before.before
+end-requires c κs = turned_read c.before.before.before
 
 middle-requires : tie.Need-middle-requires
-middle-requires c κs = turned-read c.before.before.before.before
+middle-requires c κs = turned_read c.before.before.before.before
 
 start-requires : tie.Need-start-requires
-start-requires c κs = turned-read c.before.before.before.before.before
+start-requires c κs = turned_read c.before.before.before.before.before
 
 put-row-requires : tie.Need-put-row-requires
 put-row-requires c κs = let s = c.before.before.before.before.before.before.before in let k = small s in (k.0, k.1, k.2, s.requires.1.sized)
 
 returns : tie.Need-returns
-unfolding putRow
+unfolding put_row
 returns c = let e = c.before.before in let s = e.before.before.before.before.before.before in
-    let u = to_z-of_z (record { sfits = e.before.before.end.type-inv }) ∙ e.before.before.end.ensures ∙ turned-start (p s) (q s) (r s) ∙ cut s 0 in
-    let v = to_z-of_z (record { sfits = e.before.middle.type-inv }) ∙ e.before.middle.ensures ∙ turned-middle (p s) (q s) (r s) ∙ cut s 1 in
-    let w = to_z-of_z (record { sfits = e.start.type-inv }) ∙ e.start.ensures ∙ turned-end (p s) (q s) (r s) ∙ cut s 2 in
-    row-held s.requires.0 s.requires.1 (c.put-row.ensures ∙ (λ i. set (set (set s.args.out.now s.args.x (u i)) s.args.y (v i)) s.args.z (w i)))
+    let u = to_z-of_z (record { sfits = e.before.before.end.type-inv }) ∙ e.before.before.end.ensures ∙ turned_start (p s) (q s) (r s) ∙ cut s 0 in
+    let v = to_z-of_z (record { sfits = e.before.middle.type-inv }) ∙ e.before.middle.ensures ∙ turned_middle (p s) (q s) (r s) ∙ cut s 1 in
+    let w = to_z-of_z (record { sfits = e.start.type-inv }) ∙ e.start.ensures ∙ turned_end (p s) (q s) (r s) ∙ cut s 2 in
+    row_held s.requires.0 s.requires.1 (c.put-row.ensures ∙ (λ i. set (set (set s.args.out.now s.args.x (u i)) s.args.y (v i)) s.args.z (w i)))
 
 pub upper-row-spec : {M : Type 1} → statement M
 upper-row-spec =

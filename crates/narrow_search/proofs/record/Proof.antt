@@ -6,19 +6,19 @@ use native.Mathlib.Omega.{arith}
 use lib.Dec.{ltb}
 use borrow.Author.Rules.{rules}
 use borrow.Author.Tests.{ltb-true, ltb-false}
-use Rattle.definitions.specs.Record.{verdictWords, recordOf}
+use Rattle.definitions.specs.Record.{verdict_words, record_of}
 use Rattle.verdict_theory.specs.Search.{nothing}
 use Rattle.search_theory.specs.Meaning.{lowest}
-use Rattle.search_theory.specs.Children.{small-less}
-use Rattle.search_theory.specs.Visit.{isBlocked}
-use Rattle.search_theory.specs.Levels.{fresh, settled, settled-clear, Made, made-first, made-next, made-room}
+use Rattle.search_theory.specs.Children.{small_less}
+use Rattle.search_theory.specs.Visit.{is_blocked}
+use Rattle.search_theory.specs.Levels.{fresh, settled, settled_clear, Made, made_first, made_next, made_room}
 use Rattle.narrow_rows.specs.Word.{largest}
-use Rattle.search_pass.specs.Meaning.{passWords}
+use Rattle.search_pass.specs.Meaning.{pass_words}
 use Rattle.narrow_search.proofs.record.Statement.{statement}
 use Rattle.narrow_search.proofs.record.Tie as tie
 
 abbrev invariant-loop : tie.invariant-loop
-invariant-loop g depth m₀ r₀ m r = (m ≤ depth) × Made passWords g m r
+invariant-loop g depth m₀ r₀ m r = (m ≤ depth) × Made pass_words g m r
 
 abbrev decreases-loop : tie.decreases-loop
 decreases-loop g depth m₀ r₀ m r = depth - m
@@ -33,19 +33,19 @@ settled-requires : tie.Need-settled-requires invariant-loop decreases-loop
 settled-requires c κs = tt
 
 returns : tie.Need-returns invariant-loop decreases-loop
-unfolding recordOf
-returns c xs e = let s = c.before.before.before.before.before.before in let final = settled-clear xs s.args.g.now e s.requires.0.control.sized (sym c.before.before.before.before.before.lowest.ensures.0 ∙ c.before.before.before.before.if1.true) s.args.depth in
-    c.settled.ensures (record { count = 1; found = nothing }) (c.before.before.skip.ensures (fresh 0) refl) ∙ ap₂ verdictWords final.0 final.1
+unfolding record_of
+returns c xs e = let s = c.before.before.before.before.before.before in let final = settled_clear xs s.args.g.now e s.requires.0.control.sized (sym c.before.before.before.before.before.lowest.ensures.0 ∙ c.before.before.before.before.if1.true) s.args.depth in
+    c.settled.ensures (record { count = 1; found = nothing }) (c.before.before.skip.ensures (fresh 0) refl) ∙ ap₂ verdict_words final.0 final.1
 
 -- a coefficient is low
-some-low : (c : tie.Else1 invariant-loop decreases-loop) → lowest c.before.before.args.g.now ≡ 0 → ⊥
-some-low c z = c.if1.false (c.before.lowest.ensures.0 ∙ z)
+some_low : (c : tie.Else1 invariant-loop decreases-loop) → lowest c.before.before.args.g.now ≡ 0 → ⊥
+some_low c z = c.if1.false (c.before.lowest.ensures.0 ∙ z)
 
 pass-at-requires : tie.Need-pass-at-requires invariant-loop decreases-loop
-pass-at-requires c κs = let s = c.before.before.before in (small-less largest s.args.g.now 0 s.args.depth zero-le s.requires.0, zero-le, record { pass = fresh 0; is = refl; room = omega arith }, some-low c.before)
+pass-at-requires c κs = let s = c.before.before.before in (small_less largest s.args.g.now 0 s.args.depth zero-le s.requires.0, zero-le, record { pass = fresh 0; is = refl; room = omega arith }, some_low c.before)
 
 loop-holds : tie.Need-loop-init invariant-loop decreases-loop
-loop-holds c = let s = c.before.before.before.before in (zero-le, made-first passWords s.args.g.now _ (c.pass-at.ensures (fresh 0) refl))
+loop-holds c = let s = c.before.before.before.before in (zero-le, made_first pass_words s.args.g.now _ (c.pass-at.ensures (fresh 0) refl))
 
 blocked-requires : tie.Need-blocked-requires invariant-loop decreases-loop
 blocked-requires c κs = tt
@@ -54,13 +54,13 @@ add-m : tie.Need-overflow-add-m invariant-loop decreases-loop
 add-m c = search rules
 
 -- what the loop's test says
-going : (c : tie.Then2 invariant-loop decreases-loop) → (c.before.before.before.loop.m < c.before.before.before.before.before.before.before.before.args.depth) × (isBlocked c.before.before.before.loop.invariant.1.pass.found ≡ true)
+going : (c : tie.Then2 invariant-loop decreases-loop) → (c.before.before.before.loop.m < c.before.before.before.before.before.before.before.before.args.depth) × (is_blocked c.before.before.before.loop.invariant.1.pass.found ≡ true)
 going c =
     let l = c.before.before.before in
     let tests = (and-eq-true_iff (ltb l.loop.m c.before.before.before.before.before.before.before.before.args.depth) c.before.blocked.result).0 c.if2.true in
     (ltb-true _ _ tests.0, sym (c.before.blocked.ensures l.loop.invariant.1.pass l.loop.invariant.1.is) ∙ tests.1)
 
-last : (c : tie.Else2 invariant-loop decreases-loop) → isBlocked c.before.before.before.loop.invariant.1.pass.found ≡ true → c.before.before.before.loop.m ≡ c.before.before.before.before.before.before.before.before.args.depth
+last : (c : tie.Else2 invariant-loop decreases-loop) → is_blocked c.before.before.before.loop.invariant.1.pass.found ≡ true → c.before.before.before.loop.m ≡ c.before.before.before.before.before.before.before.before.args.depth
 last c b =
     let l = c.before.before.before in
     let depth = c.before.before.before.before.before.before.before.before.args.depth in
@@ -71,23 +71,23 @@ last c b =
 
 pass-at-requires-2 : tie.Need-pass-at-requires-2 invariant-loop decreases-loop
 pass-at-requires-2 c κs = let l = c.before.before.before.before in let s = c.before.before.before.before.before.before.before.before.before in let go = going c.before in
-    (small-less largest s.args.g.now (l.loop.m + 1) s.args.depth (omega arith) s.requires.0, omega (arith, s.requires.1), made-room passWords s.args.g.now l.loop.m l.loop.r (omega (arith, s.requires.1)) l.loop.invariant.1, some-low c.before.before.before.before.before.before.before)
+    (small_less largest s.args.g.now (l.loop.m + 1) s.args.depth (omega arith) s.requires.0, omega (arith, s.requires.1), made_room pass_words s.args.g.now l.loop.m l.loop.r (omega (arith, s.requires.1)) l.loop.invariant.1, some_low c.before.before.before.before.before.before.before)
 
 loop-less : tie.Need-loop-smaller invariant-loop decreases-loop
 loop-less c = let go = going c.before.before in omega arith
 
 loop-again : tie.Need-loop-preserved invariant-loop decreases-loop
 loop-again c = let l = c.before.before.before.before.before in let s = c.before.before.before.before.before.before.before.before.before.before in let made = l.loop.invariant.1 in let go = going c.before.before in
-    (omega arith, made-next passWords s.args.g.now l.loop.m l.loop.r _ made go.1 (c.pass-at2.ensures made.pass made.is))
+    (omega arith, made_next pass_words s.args.g.now l.loop.m l.loop.r _ made go.1 (c.pass-at2.ensures made.pass made.is))
 
 settled-requires-2 : tie.Need-settled-requires-2 invariant-loop decreases-loop
 settled-requires-2 c κs = tt
 
 returns-2 : tie.Need-returns-2 invariant-loop decreases-loop
-unfolding recordOf
+unfolding record_of
 returns-2 c xs e = let l = c.before.before.before.before.before in let s = c.before.before.before.before.before.before.before.before.before.before in let made = l.loop.invariant.1 in
     let final = settled xs l.loop.m s.args.depth made.pass l.loop.invariant.0 (made.at xs e) (λ b. last c.before.before b) in
-    c.settled2.ensures made.pass made.is ∙ ap₂ verdictWords final.0 final.1
+    c.settled2.ensures made.pass made.is ∙ ap₂ verdict_words final.0 final.1
 
 pub record-spec : {M : Type 1} → statement M
 record-spec =

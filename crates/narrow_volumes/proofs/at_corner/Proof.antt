@@ -6,39 +6,39 @@ use lib.IntN.{ℤ}
 use mir.Syntax.{w64}
 use mir.Val.{of_z}
 use Rattle.foundation.specs.Polynomial.{integers}
-use Rattle.definitions.specs.Jacobian.{nodesOf}
+use Rattle.definitions.specs.Jacobian.{nodes_of}
 use Rattle.definitions.specs.Coefficients.{edge}
 use Rattle.foundation.specs.Held.{read_back}
 use Rattle.element_vectors.specs.Fitting.{alike}
-use Rattle.element_vectors.specs.Vectors.{HeldVector, vector-within, det-read, edge-held}
-use Rattle.narrow_volumes.specs.Range.{middleLimit}
+use Rattle.element_vectors.specs.Vectors.{HeldVector, vector_within, det_read, edge_held}
+use Rattle.narrow_volumes.specs.Range.{middle_limit}
 use Rattle.narrow_volumes.proofs.at_corner.Statement.{statement}
 use Rattle.narrow_volumes.proofs.at_corner.Tie as tie
 
 abbrev toward : tie.Start → ℕ → ℕ → ℤ
-toward s b = edge integers (nodesOf s.args.p.now) s.args.a b
+toward s b = edge integers (nodes_of s.args.p.now) s.args.a b
 
 -- the entry as seen after the three calls of each vector, and the vector held
 module _ (c : tie.After-edge3) where
   abbrev entry-1 : tie.Start
   entry-1 = c.before.before.before
 
-  to-b : HeldVector middleLimit (of_z w64 c.before.before.edge.result) (of_z w64 c.before.edge2.result) (of_z w64 c.edge3.result) (toward entry-1 entry-1.args.b)
-  to-b = edge-held entry-1.pre.0 middleLimit tt (lit≤ tt) entry-1.args.a entry-1.args.b c.before.before.edge.ensures c.before.edge2.ensures c.edge3.ensures
+  to_b : HeldVector middle_limit (of_z w64 c.before.before.edge.result) (of_z w64 c.before.edge2.result) (of_z w64 c.edge3.result) (toward entry-1 entry-1.args.b)
+  to_b = edge_held entry-1.pre.0 middle_limit tt (lit≤ tt) entry-1.args.a entry-1.args.b c.before.before.edge.ensures c.before.edge2.ensures c.edge3.ensures
 
 module _ (c : tie.After-edge6) where
   abbrev entry-2 : tie.Start
   entry-2 = entry-1 c.before.before.before
 
-  to-c : HeldVector middleLimit (of_z w64 c.before.before.edge4.result) (of_z w64 c.before.edge5.result) (of_z w64 c.edge6.result) (toward entry-2 entry-2.args.c)
-  to-c = edge-held entry-2.pre.0 middleLimit tt (lit≤ tt) entry-2.args.a entry-2.args.c c.before.before.edge4.ensures c.before.edge5.ensures c.edge6.ensures
+  to_c : HeldVector middle_limit (of_z w64 c.before.before.edge4.result) (of_z w64 c.before.edge5.result) (of_z w64 c.edge6.result) (toward entry-2 entry-2.args.c)
+  to_c = edge_held entry-2.pre.0 middle_limit tt (lit≤ tt) entry-2.args.a entry-2.args.c c.before.before.edge4.ensures c.before.edge5.ensures c.edge6.ensures
 
 module _ (c : tie.After-edge9) where
   abbrev entry-3 : tie.Start
   entry-3 = entry-2 c.before.before.before
 
-  to-d : HeldVector middleLimit (of_z w64 c.before.before.edge7.result) (of_z w64 c.before.edge8.result) (of_z w64 c.edge9.result) (toward entry-3 entry-3.args.d)
-  to-d = edge-held entry-3.pre.0 middleLimit tt (lit≤ tt) entry-3.args.a entry-3.args.d c.before.before.edge7.ensures c.before.edge8.ensures c.edge9.ensures
+  to_d : HeldVector middle_limit (of_z w64 c.before.before.edge7.result) (of_z w64 c.before.edge8.result) (of_z w64 c.edge9.result) (toward entry-3 entry-3.args.d)
+  to_d = edge_held entry-3.pre.0 middle_limit tt (lit≤ tt) entry-3.args.a entry-3.args.d c.before.before.edge7.ensures c.before.edge8.ensures c.edge9.ensures
 
 edge-requires : tie.Need-edge-requires
 edge-requires c κs = search rules
@@ -68,11 +68,11 @@ edge-requires-9 : tie.Need-edge-requires-9
 edge-requires-9 c κs = search rules
 
 determinant-requires : tie.Need-determinant-requires
-determinant-requires c κs = let d = c.before.before.before in record { sort = alike; first = vector-within (to-b d.before.before.before); second = vector-within (to-c d); third = vector-within (to-d c) }
+determinant-requires c κs = let d = c.before.before.before in record { sort = alike; first = vector_within (to_b d.before.before.before); second = vector_within (to_c d); third = vector_within (to_d c) }
 
 returns : tie.Need-returns
 returns c = let d = c.before.before.before.before in
-    read_back c.determinant.type-inv (det-read (λ x. x) (to-b d.before.before.before) (to-c d) (to-d c.before) c.determinant.ensures)
+    read_back c.determinant.type-inv (det_read (λ x. x) (to_b d.before.before.before) (to_c d) (to_d c.before) c.determinant.ensures)
 
 pub at-corner-spec : {M : Type 1} → statement M
 at-corner-spec =

@@ -1,5 +1,5 @@
 -- Twelve edges, one by one.
-use Rattle.narrow_volumes.specs.Begun.{all-volumes}
+use Rattle.narrow_volumes.specs.Begun.{all_volumes}
 use borrow.Author.Rules.{rules}
 use Rattle.narrow_volumes.proofs.edges.Statement.{statement}
 use Rattle.narrow_volumes.proofs.edges.Tie as tie
@@ -41,7 +41,7 @@ put-between-requires-8 : tie.Need-put-between-requires-8
 put-between-requires-8 c κs = search rules
 
 returns : tie.Need-returns
-returns c = all-volumes c.put-between8.ensures
+returns c = all_volumes c.put-between8.ensures
 
 pub edges_spec : {M : Type 1} → statement M
 edges_spec =

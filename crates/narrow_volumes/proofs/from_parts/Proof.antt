@@ -10,14 +10,14 @@ use mir.Val.{of_z}
 use Rattle.foundation.specs.Held.{read_back}
 use Rattle.foundation.specs.Polynomial.{integers}
 use Rattle.foundation.specs.Words.{args}
-use Rattle.definitions.specs.Jacobian.{nodesOf}
-use Rattle.element_vectors.specs.Fitting.{alike, firstLimit}
-use Rattle.element_vectors.specs.Vectors.{HeldVector, vector-within}
-use Rattle.element_corners.specs.Edges.{cornerEdges}
-use Rattle.element_corners.specs.Parts.{alongXi, cofactor, corner-is}
-use Rattle.element_corners.specs.Weighing.{cofactorLimit}
-use Rattle.element_corners.specs.Held.{against-read, xi-held, cofactors-held}
-use Rattle.narrow_volumes.specs.Places.{corner-at}
+use Rattle.definitions.specs.Jacobian.{nodes_of}
+use Rattle.element_vectors.specs.Fitting.{alike, first_limit}
+use Rattle.element_vectors.specs.Vectors.{HeldVector, vector_within}
+use Rattle.element_corners.specs.Edges.{corner_edges}
+use Rattle.element_corners.specs.Parts.{along_xi, cofactor, corner_is}
+use Rattle.element_corners.specs.Weighing.{cofactor_limit}
+use Rattle.element_corners.specs.Held.{against_read, xi_held, cofactors_held}
+use Rattle.narrow_volumes.specs.Places.{corner_at_law}
 use borrow.Author.Rules.{rules}
 use Rattle.narrow_volumes.proofs.from_parts.Statement.{statement}
 use Rattle.narrow_volumes.proofs.from_parts.Tie as tie
@@ -27,11 +27,11 @@ module _ (s : tie.Start) where
   in_count : s.args.k < s.args.k + 1
   in_count = omega arith
 
-  edge-held : HeldVector (firstLimit alike) (of_z w64 (args s.args.parts.now (6 * s.args.k))) (of_z w64 (args s.args.parts.now (6 * s.args.k + 1))) (of_z w64 (args s.args.parts.now (6 * s.args.k + 2))) (alongXi integers (nodesOf s.args.p.now) (get_or cornerEdges s.args.k []))
-  edge-held = xi-held s.pre.0 s.pre.1.1 (firstLimit alike) tt s.args.k in_count s.pre.1.0 (lit≤ tt)
+  edge_held : HeldVector (first_limit alike) (of_z w64 (args s.args.parts.now (6 * s.args.k))) (of_z w64 (args s.args.parts.now (6 * s.args.k + 1))) (of_z w64 (args s.args.parts.now (6 * s.args.k + 2))) (along_xi integers (nodes_of s.args.p.now) (get_or corner_edges s.args.k []))
+  edge_held = xi_held s.pre.0 s.pre.1.1 (first_limit alike) tt s.args.k in_count s.pre.1.0 (lit≤ tt)
 
-  others-held : HeldVector (cofactorLimit alike) (of_z w64 (args s.args.parts.now (6 * s.args.k + 3))) (of_z w64 (args s.args.parts.now (6 * s.args.k + 4))) (of_z w64 (args s.args.parts.now (6 * s.args.k + 5))) (cofactor integers (nodesOf s.args.p.now) (get_or cornerEdges s.args.k []))
-  others-held = cofactors-held s.pre.0 s.pre.1.1 (cofactorLimit alike) tt s.args.k in_count s.pre.1.0 (lit≤ tt)
+  others_held : HeldVector (cofactor_limit alike) (of_z w64 (args s.args.parts.now (6 * s.args.k + 3))) (of_z w64 (args s.args.parts.now (6 * s.args.k + 4))) (of_z w64 (args s.args.parts.now (6 * s.args.k + 5))) (cofactor integers (nodes_of s.args.p.now) (get_or corner_edges s.args.k []))
+  others_held = cofactors_held s.pre.0 s.pre.1.1 (cofactor_limit alike) tt s.args.k in_count s.pre.1.0 (lit≤ tt)
 
 mul-s : tie.Need-overflow-mul-s
 mul-s c = search rules
@@ -88,11 +88,11 @@ element-copy-out-against-6 : tie.Need-element-copy-out-against-6
 element-copy-out-against-6 c = search rules
 
 against-requires : tie.Need-against-requires
-against-requires c κs = let s = c.before.before.before.before.before.before in record { sort = alike; first = vector-within (edge-held s); second = vector-within (others-held s) }
+against-requires c κs = let s = c.before.before.before.before.before.before in record { sort = alike; first = vector_within (edge_held s); second = vector_within (others_held s) }
 
 returns : tie.Need-returns
 returns c = let s = c.before.before.before.before.before.before.before in let xs = s.args.p.now in
-    read_back c.against.type-inv (against-read (edge-held s) (others-held s) c.against.ensures) ∙ corner-is xs s.args.k s.requires.1.0 ∙ corner-at xs s.requires.1.0
+    read_back c.against.type-inv (against_read (edge_held s) (others_held s) c.against.ensures) ∙ corner_is xs s.args.k s.requires.1.0 ∙ corner_at_law xs s.requires.1.0
 
 pub from_parts_spec : {M : Type 1} → statement M
 from_parts_spec =

@@ -9,28 +9,28 @@ use lib.IntN.{ℤ}
 use lib.Signed.{mag}
 use mir.Syntax.{w64}
 use mir.Val.{to_z, of_z}
-use Rattle.foundation.specs.Words.{signedLimit}
+use Rattle.foundation.specs.Words.{signed_limit}
 use Rattle.foundation.specs.Polynomial.{integers}
 use Rattle.foundation.specs.Held.{read_back}
-use Rattle.definitions.specs.Jacobian.{nodesOf}
-use Rattle.definitions.specs.Coefficients.{cornerVolume, edgeVolume, cornerTetrahedra, edgeTetrahedra}
+use Rattle.definitions.specs.Jacobian.{nodes_of}
+use Rattle.definitions.specs.Coefficients.{corner_volume, edge_volume, corner_tetrahedra, edge_tetrahedra}
 use Rattle.narrow_volumes.proofs.volumes.Statement.{statement}
 use Rattle.narrow_volumes.proofs.volumes.Tie as tie
 
 -- J at corner k and four times J at the middle of edge k, counted from 0
 abbrev corner : List ℤ → ℕ → ℤ
-corner xs k = cornerVolume integers (nodesOf xs) (get_or cornerTetrahedra k [])
+corner xs k = corner_volume integers (nodes_of xs) (get_or corner_tetrahedra k [])
 
 abbrev middle : List ℤ → ℕ → ℤ
-middle xs k = edgeVolume integers (nodesOf xs) (get_or edgeTetrahedra k [])
+middle xs k = edge_volume integers (nodes_of xs) (get_or edge_tetrahedra k [])
 
 -- what a call for each is read back as
 module _ (xs : List ℤ) (k : ℕ) {r : ℤ} where
-  corner-read : mag r < signedLimit → r ≡ corner xs k → to_z w64 (of_z w64 r) ≡ corner xs k
-  corner-read = read_back
+  corner_read : mag r < signed_limit → r ≡ corner xs k → to_z w64 (of_z w64 r) ≡ corner xs k
+  corner_read = read_back
 
-  middle-read : mag r < signedLimit → r ≡ middle xs k → to_z w64 (of_z w64 r) ≡ middle xs k
-  middle-read = read_back
+  middle_read : mag r < signed_limit → r ≡ middle xs k → to_z w64 (of_z w64 r) ≡ middle xs k
+  middle_read = read_back
 
 -- the function's entry, seen after the fourth edge
 abbrev entry : tie.After-at-edge4 → tie.Start
@@ -119,26 +119,26 @@ returns c =
     let c1 = c2.before in
     let xs = c1.before.args.p.now in
     λ i.
-    corner-read xs 0 c1.at-corner.type-inv c1.at-corner.ensures i ∷
-    corner-read xs 1 c2.at-corner2.type-inv c2.at-corner2.ensures i ∷
-    corner-read xs 2 c3.at-corner3.type-inv c3.at-corner3.ensures i ∷
-    corner-read xs 3 c4.at-corner4.type-inv c4.at-corner4.ensures i ∷
-    corner-read xs 4 c5.at-corner5.type-inv c5.at-corner5.ensures i ∷
-    corner-read xs 5 c6.at-corner6.type-inv c6.at-corner6.ensures i ∷
-    corner-read xs 6 c7.at-corner7.type-inv c7.at-corner7.ensures i ∷
-    corner-read xs 7 c8.at-corner8.type-inv c8.at-corner8.ensures i ∷
-    middle-read xs 0 c9.at_Edge.type-inv c9.at_Edge.ensures i ∷
-    middle-read xs 1 c10.at-edge2.type-inv c10.at-edge2.ensures i ∷
-    middle-read xs 2 c11.at-edge3.type-inv c11.at-edge3.ensures i ∷
-    middle-read xs 3 c12.at-edge4.type-inv c12.at-edge4.ensures i ∷
-    middle-read xs 4 c13.at-edge5.type-inv c13.at-edge5.ensures i ∷
-    middle-read xs 5 c14.at-edge6.type-inv c14.at-edge6.ensures i ∷
-    middle-read xs 6 c15.at-edge7.type-inv c15.at-edge7.ensures i ∷
-    middle-read xs 7 c16.at-edge8.type-inv c16.at-edge8.ensures i ∷
-    middle-read xs 8 c17.at-edge9.type-inv c17.at-edge9.ensures i ∷
-    middle-read xs 9 c18.at-edge10.type-inv c18.at-edge10.ensures i ∷
-    middle-read xs 10 c19.at-edge11.type-inv c19.at-edge11.ensures i ∷
-    middle-read xs 11 c.at-edge12.type-inv c.at-edge12.ensures i ∷
+    corner_read xs 0 c1.at_corner_law.type-inv c1.at_corner_law.ensures i ∷
+    corner_read xs 1 c2.at-corner2.type-inv c2.at-corner2.ensures i ∷
+    corner_read xs 2 c3.at-corner3.type-inv c3.at-corner3.ensures i ∷
+    corner_read xs 3 c4.at-corner4.type-inv c4.at-corner4.ensures i ∷
+    corner_read xs 4 c5.at-corner5.type-inv c5.at-corner5.ensures i ∷
+    corner_read xs 5 c6.at-corner6.type-inv c6.at-corner6.ensures i ∷
+    corner_read xs 6 c7.at-corner7.type-inv c7.at-corner7.ensures i ∷
+    corner_read xs 7 c8.at-corner8.type-inv c8.at-corner8.ensures i ∷
+    middle_read xs 0 c9.at_Edge.type-inv c9.at_Edge.ensures i ∷
+    middle_read xs 1 c10.at-edge2.type-inv c10.at-edge2.ensures i ∷
+    middle_read xs 2 c11.at-edge3.type-inv c11.at-edge3.ensures i ∷
+    middle_read xs 3 c12.at-edge4.type-inv c12.at-edge4.ensures i ∷
+    middle_read xs 4 c13.at-edge5.type-inv c13.at-edge5.ensures i ∷
+    middle_read xs 5 c14.at-edge6.type-inv c14.at-edge6.ensures i ∷
+    middle_read xs 6 c15.at-edge7.type-inv c15.at-edge7.ensures i ∷
+    middle_read xs 7 c16.at-edge8.type-inv c16.at-edge8.ensures i ∷
+    middle_read xs 8 c17.at-edge9.type-inv c17.at-edge9.ensures i ∷
+    middle_read xs 9 c18.at-edge10.type-inv c18.at-edge10.ensures i ∷
+    middle_read xs 10 c19.at-edge11.type-inv c19.at-edge11.ensures i ∷
+    middle_read xs 11 c.at-edge12.type-inv c.at-edge12.ensures i ∷
     []
 
 pub volumes-spec : {M : Type 1} → statement M

@@ -1,15 +1,15 @@
 -- `print_worked::print_record` meets its contract: k stays within the record. Assumes nothing.
 use Prim.Native.Nat.{◌≤◌, ◌-◌}
 use borrow.Author.Rules.{rules}
-use Rattle.definitions.specs.Limits.{recordWords}
+use Rattle.definitions.specs.Limits.{record_words}
 use Rattle.print_worked.proofs.print_record.Statement.{statement}
 use Rattle.print_worked.proofs.print_record.Tie as tie
 
 abbrev invariant-loop : tie.invariant-loop
-invariant-loop report k₀ t5 k = k ≤ recordWords
+invariant-loop report k₀ t5 k = k ≤ record_words
 
 abbrev decreases-loop : tie.decreases-loop
-decreases-loop report k₀ t5 k = recordWords - k
+decreases-loop report k₀ t5 k = record_words - k
 
 loop-holds : tie.Need-loop-init invariant-loop decreases-loop
 loop-holds c = search rules

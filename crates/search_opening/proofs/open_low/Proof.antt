@@ -4,16 +4,16 @@ use Prim.Native.Nat.{suc, ◌+◌, ◌-◌}
 use native.Mathlib.Omega.{arith}
 use Rattle.verdict_theory.specs.Search.{Found}
 use Rattle.search_theory.specs.Meaning.{cell_of}
-use Rattle.search_theory.specs.Lowest.{atCell, withCoefficient, opened-corner, opened-coefficient}
-use Rattle.search_theory.specs.Visit.{held-less}
-use Rattle.search_pass.specs.Meaning.{layout, passWords, foundWords}
-use Rattle.search_opening.proofs.Words.{nothing-word, stays-word}
+use Rattle.search_theory.specs.Lowest.{at_cell, with_coefficient, opened_corner, opened_coefficient}
+use Rattle.search_theory.specs.Visit.{held_less}
+use Rattle.search_pass.specs.Meaning.{layout, pass_words, found_words}
+use Rattle.search_opening.proofs.Words.{nothing_word, stays_word}
 use borrow.Author.Rules.{rules}
 use Rattle.search_opening.proofs.open_low.Statement.{statement}
 use Rattle.search_opening.proofs.open_low.Tie as tie
 
 add-opened-requires : tie.Need-add-opened-requires
-add-opened-requires c κs = held-less passWords 1 _ _ (omega arith) c.before.requires.3
+add-opened-requires c κs = held_less pass_words 1 _ _ (omega arith) c.before.requires.3
 
 cast-k : tie.Need-overflow-cast-k
 cast-k c = search rules
@@ -58,7 +58,7 @@ returns c g low is p e going =
     let number : j + 1 ≡ suc j = omega arith in
     c.note.ensures (record { count = p.count + 1; found = p.found }) (o.add-opened.ensures p e)
     ∙ (λ i. layout 1 (s.args.a + first.side.ensures.0 i) (s.args.b + second.side2.ensures.0 i) (s.args.c + third.side3.ensures.0 i) (number i) (is i) (p.count + 1))
-    ∙ ap passWords (opened-corner box p.count p.found going j (sym low ∙ n) (omega arith))
+    ∙ ap pass_words (opened_corner box p.count p.found going j (sym low ∙ n) (omega arith))
 
 element-copy-out-kind : tie.Need-element-copy-out-kind
 element-copy-out-kind c = search rules
@@ -78,11 +78,11 @@ returns-2 c g low is p e going =
     let n : s.args.n ≡ suc j = omega arith in
     let number : j + 1 ≡ suc j = omega arith in
     let opened = o.add-opened.ensures p e in
-    let none = nothing-word _ (record { count = p.count + 1; found = p.found }) opened c.before.before.if2.true in
+    let none = nothing_word _ (record { count = p.count + 1; found = p.found }) opened c.before.before.if2.true in
     c.note2.ensures (record { count = p.count + 1; found = p.found }) opened
     ∙ (λ i. layout 2 s.args.a s.args.b s.args.c (number i) (is i) (p.count + 1))
-    ∙ ap (λ (o : Found). foundWords (withCoefficient o (atCell box j)) (p.count + 1)) (sym none)
-    ∙ ap passWords (opened-coefficient box p.count p.found going j (sym low ∙ n) (omega arith))
+    ∙ ap (λ (o : Found). found_words (with_coefficient o (at_cell box j)) (p.count + 1)) (sym none)
+    ∙ ap pass_words (opened_coefficient box p.count p.found going j (sym low ∙ n) (omega arith))
 
 returns-3 : tie.Need-returns-3
 returns-3 c g low is p e going =
@@ -93,8 +93,8 @@ returns-3 c g low is p e going =
     let n : s.args.n ≡ suc j = omega arith in
     let opened = o.add-opened.ensures p e in
     opened
-    ∙ ap (λ (o : Found). foundWords o (p.count + 1)) (stays-word _ (record { count = p.count + 1; found = p.found }) opened c.if2.false (atCell box j))
-    ∙ ap passWords (opened-coefficient box p.count p.found going j (sym low ∙ n) (omega arith))
+    ∙ ap (λ (o : Found). found_words o (p.count + 1)) (stays_word _ (record { count = p.count + 1; found = p.found }) opened c.if2.false (at_cell box j))
+    ∙ ap pass_words (opened_coefficient box p.count p.found going j (sym low ∙ n) (omega arith))
 
 pub open-low-spec : {M : Type 1} → statement M
 open-low-spec =

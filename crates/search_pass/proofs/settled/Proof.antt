@@ -8,8 +8,8 @@ use lib.IntN.{pos}
 use mir.Syntax.{w64}
 use mir.ValLaws.{to_z-of_z, to_z_pos}
 use borrow.Author.Rules.{rules}
-use Rattle.foundation.specs.Words.{signedLimit}
-use Rattle.search_pass.proofs.Passes.{settled-words}
+use Rattle.foundation.specs.Words.{signed_limit}
+use Rattle.search_pass.proofs.Passes.{settled_words}
 use Rattle.search_pass.proofs.settled.Statement.{statement}
 use Rattle.search_pass.proofs.settled.Tie as tie
 
@@ -51,7 +51,7 @@ returns c p e =
     let kind = x.before in
     let s = kind.before in
     let ws = s.args.pass.now in
-    let l : s.args.level < signedLimit = omega arith in
+    let l : s.args.level < signed_limit = omega arith in
     (λ i.
     to_z-of_z w64 (get_or ws 0 (pos 0)) (record { sfits = kind.kind.given }) i
     ∷ to_z_pos w64 s.args.level l i
@@ -63,7 +63,7 @@ returns c p e =
     ∷ to_z-of_z w64 (get_or ws 6 (pos 0)) (record { sfits = high.high.given }) i
     ∷ to_z-of_z w64 (get_or ws 7 (pos 0)) (record { sfits = c.count.given }) i
     ∷ [])
-    ∙ settled-words ws p s.args.level e
+    ∙ settled_words ws p s.args.level e
 
 pub settled-spec : {M : Type 1} → statement M
 settled-spec =

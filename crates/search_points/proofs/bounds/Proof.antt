@@ -3,7 +3,7 @@ use mathlib.Core.Path.{sym, ◌∙◌}
 use mir.Syntax.{w64}
 use mir.ValLaws.{to_z-of_z}
 use borrow.Author.Rules.{rules}
-use Rattle.narrow_points.specs.Points.{one-word-holds}
+use Rattle.narrow_points.specs.Points.{one_word_holds}
 use Rattle.search_points.proofs.bounds.Statement.{statement}
 use Rattle.search_points.proofs.bounds.Tie as tie
 
@@ -11,7 +11,7 @@ one-word-requires : tie.Need-one-word-requires
 one-word-requires c κs = search rules
 
 bounds-requires : tie.Need-bounds-requires
-bounds-requires c κs = let s = c.before.before in one-word-holds s.args.p.now s.args.depth s.requires.1 (sym c.before.one_word.ensures ∙ c.if1.true)
+bounds-requires c κs = let s = c.before.before in one_word_holds s.args.p.now s.args.depth s.requires.1 (sym c.before.one_word.ensures ∙ c.if1.true)
 
 from-i64-requires : tie.Need-from-i64-requires
 from-i64-requires c κs = search rules

@@ -1,7 +1,7 @@
 -- `search_points::record` meets its contract: by the numbers that suffice. Assumes nothing.
 use mathlib.Core.Path.{sym, ◌∙◌}
 use borrow.Author.Rules.{rules}
-use Rattle.narrow_points.specs.Points.{one-word-holds}
+use Rattle.narrow_points.specs.Points.{one_word_holds}
 use Rattle.search_points.proofs.record.Statement.{statement}
 use Rattle.search_points.proofs.record.Tie as tie
 
@@ -9,7 +9,7 @@ one-word-requires : tie.Need-one-word-requires
 one-word-requires c κs = search rules
 
 record-requires : tie.Need-record-requires
-record-requires c κs = let s = c.before.before in one-word-holds s.args.p.now s.args.depth s.requires.1 (sym c.before.one_word.ensures ∙ c.if1.true)
+record-requires c κs = let s = c.before.before in one_word_holds s.args.p.now s.args.depth s.requires.1 (sym c.before.one_word.ensures ∙ c.if1.true)
 
 returns : tie.Need-returns
 returns c = search rules

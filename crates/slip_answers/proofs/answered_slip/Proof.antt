@@ -8,7 +8,7 @@ use lib.ListN.{length}
 use Rattle.lot_format.specs.Runs.{Runs}
 use Rattle.bytes_output.specs.Behind.{laid_as}
 use Rattle.slip_meshes.specs.Counted.{lent}
-use Rattle.slip_answers.specs.Answered.{refused-by, many_by, few-by}
+use Rattle.slip_answers.specs.Answered.{refused_by, many_by, few_by}
 use Rattle.slip_answers.proofs.answered_slip.Statement.{statement}
 use Rattle.slip_answers.proofs.answered_slip.Tie as tie
 
@@ -23,13 +23,13 @@ array-read-number : tie.Need-array-read-number
 array-read-number c = search rules
 
 refused-line-requires : tie.Need-refused-line-requires
-refused-line-requires c κs = let s = c.before.before.before.before.before.before.before.before in let e = ap length (refused-by (lentIn s) (answer_in s) c.before.if1.true) in omega (arith, s.requires.1)
+refused-line-requires c κs = let s = c.before.before.before.before.before.before.before.before in let e = ap length (refused_by (lentIn s) (answer_in s) c.before.if1.true) in omega (arith, s.requires.1)
 
 same_length : tie.Need-same-length
 same_length c = search rules
 
 returns : tie.Need-returns
-returns c = let s = c.before.before.before.before.before.before.before.before.before.before.before in laid_as s.args.at s.args.out.now (refused-by (lentIn s) (answer_in s) c.before.before.before.before.if1.true) c.before.before.refused-line.ensures
+returns c = let s = c.before.before.before.before.before.before.before.before.before.before.before in laid_as s.args.at s.args.out.now (refused_by (lentIn s) (answer_in s) c.before.before.before.before.if1.true) c.before.before.refused-line.ensures
 
 array-read-count : tie.Need-array-read-count
 array-read-count c = search rules
@@ -50,7 +50,7 @@ read-slip-requires : tie.Need-read-slip-requires
 read-slip-requires c κs =
     let s = c.before.before.before.before.before.before.before.before.before.before in
     let few = c.before.before.if2.false in
-    let e = ap length (few-by (lentIn s) (answer_in s) c.before.before.before.if1.false few) in
+    let e = ap length (few_by (lentIn s) (answer_in s) c.before.before.before.if1.false few) in
     ((s.requires.0.0, s.requires.0.1, few), omega (arith, s.requires.1))
 
 same-length-3 : tie.Need-same-length-3
@@ -60,7 +60,7 @@ same-length-4 : tie.Need-same-length-4
 same-length-4 c = search rules
 
 returns-3 : tie.Need-returns-3
-returns-3 c = let s = c.before.before.before.before.before.before.before.before.before.before.before.before.before.before in laid_as s.args.at s.args.out.now (few-by (lentIn s) (answer_in s) c.before.before.before.before.before.before.before.if1.false c.before.before.before.before.before.before.if2.false) c.before.before.before.read-slip.ensures
+returns-3 c = let s = c.before.before.before.before.before.before.before.before.before.before.before.before.before.before in laid_as s.args.at s.args.out.now (few_by (lentIn s) (answer_in s) c.before.before.before.before.before.before.before.if1.false c.before.before.before.before.before.before.if2.false) c.before.before.before.read_slip.ensures
 
 pub answered-slip-spec : {M : Type 1} → statement M
 answered-slip-spec =

@@ -5,7 +5,7 @@ use Prim.Native.Nat.{ℕ, ◌*◌}
 use native.Mathlib.Omega.{arith}
 use lib.ListN.{get_or}
 use lib.Seq.{length-take-le}
-use Rattle.definitions.specs.Limits.{recordWords}
+use Rattle.definitions.specs.Limits.{record_words}
 use borrow.Author.Rules.{rules}
 use Rattle.slip_meshes.proofs.read_slip.Statement.{statement}
 use Rattle.slip_meshes.proofs.read_slip.Tie as tie
@@ -72,14 +72,14 @@ slice-relend-prefix-mesh-slip : tie.Need-slice-relend-prefix-mesh-slip
 slice-relend-prefix-mesh-slip c = search rules
 
 slice-aggregate-mesh-slip-6 : tie.Need-slice-aggregate-mesh-slip-6
-slice-aggregate-mesh-slip-6 c = let s = c.before.before.before.before.before.before.before.before.before.before.before.before.before in sym (length-take-le (recordWords * get_or (answer_in s) 2 0) s.args.report.now (omega (arith, s.requires.0)))
+slice-aggregate-mesh-slip-6 c = let s = c.before.before.before.before.before.before.before.before.before.before.before.before.before in sym (length-take-le (record_words * get_or (answer_in s) 2 0) s.args.report.now (omega (arith, s.requires.0)))
 
 mesh-slip-requires : tie.Need-mesh-slip-requires
 mesh-slip-requires c κs =
     let s = c.before.before.before.before.before.before.before.before.before.before.before.before.before in
     let h = s.requires.0.0 in
     let long = length-take-le (8 * get_or (answer_in s) 2 0) s.args.elements.now h.elements in
-    let room = length-take-le (recordWords * get_or (answer_in s) 2 0) s.args.report.now (omega (arith, s.requires.0)) in
+    let room = length-take-le (record_words * get_or (answer_in s) 2 0) s.args.report.now (omega (arith, s.requires.0)) in
     ((omega (arith, s.requires.0), omega arith), s.requires.1)
 
 same_length : tie.Need-same-length

@@ -11,19 +11,19 @@ use lib.Signed.{lt_z}
 use mir.Syntax.{w64}
 use mir.ValLaws.{to_z-of_z}
 use Rattle.bytes_output.specs.Behind.{laid_as, laid_then}
-use Rattle.slip_format.specs.Decimal.{decimal, signedDecimal}
+use Rattle.slip_format.specs.Decimal.{decimal, signed_decimal}
 use Rattle.slip_numbers.proofs.Negative.{signed_below, signed_above}
 use Rattle.slip_numbers.proofs.signed.Statement.{statement}
 use Rattle.slip_numbers.proofs.signed.Tie as tie
 
 -- the text of a number below zero, and of any other
-below : (c : tie.Then1) → 45 ∷ decimal c.before.magnitude.result ≡ signedDecimal c.before.before.before.args.w
+below : (c : tie.Then1) → 45 ∷ decimal c.before.magnitude.result ≡ signed_decimal c.before.before.before.args.w
 below c =
     let s = c.before.before.before in
     let same = to_z-of_z w64 s.args.w s.ranges.w in
     ap (λ (x : ℕ). 45 ∷ decimal x) (c.before.magnitude.ensures ∙ ap nat_abs same) ∙ sym (signed_below s.args.w (subst (λ (z : ℤ). lt_z z (pos 0) ≡ true) same c.if1.true))
 
-above : (c : tie.Else1) → decimal c.before.magnitude.result ≡ signedDecimal c.before.before.before.args.w
+above : (c : tie.Else1) → decimal c.before.magnitude.result ≡ signed_decimal c.before.before.before.args.w
 above c =
     let s = c.before.before.before in
     let same = to_z-of_z w64 s.args.w s.ranges.w in

@@ -4,19 +4,19 @@ use mathlib.Core.List.{List, ◌∷◌}
 use Prim.Native.Nat.{ℕ, ◌+◌, ◌≤◌}
 use borrow.Author.Rules.{rules}
 use lib.ListN.{length}
-use Rattle.slip_format.specs.Slip.{stampWord}
+use Rattle.slip_format.specs.Slip.{stamp_word}
 use Rattle.inspection_counts.specs.declared.Stamp.{Stamp}
-use Rattle.inspection_counts.specs.Meaning.{stampHeld}
+use Rattle.inspection_counts.specs.Meaning.{stamp_held}
 use Rattle.bytes_output.specs.Behind.{Laid, laid_as}
 use Rattle.slip_summary.proofs.stamp_word.Statement.{statement}
 use Rattle.slip_summary.proofs.stamp_word.Tie as tie
 
 -- the word of the stamp that a branch has found has room, and laid down it is the stamp's
-fits : (s : tie.Start) {x : Stamp} → s.args.stamp ≡ x → s.args.at + length (32 ∷ stampWord (stampHeld x)) ≤ length s.args.out.now
-fits s e = subst (λ (x : Stamp). s.args.at + length (32 ∷ stampWord (stampHeld x)) ≤ length s.args.out.now) e s.requires
+fits : (s : tie.Start) {x : Stamp} → s.args.stamp ≡ x → s.args.at + length (32 ∷ stamp_word (stamp_held x)) ≤ length s.args.out.now
+fits s e = subst (λ (x : Stamp). s.args.at + length (32 ∷ stamp_word (stamp_held x)) ≤ length s.args.out.now) e s.requires
 
-laid : (s : tie.Start) {x : Stamp} {now : List ℕ} {next : ℕ} → s.args.stamp ≡ x → Laid s.args.at (32 ∷ stampWord (stampHeld x)) s.args.out.now now next → Laid s.args.at (32 ∷ stampWord (stampHeld s.args.stamp)) s.args.out.now now next
-laid s e = laid_as s.args.at s.args.out.now (sym (ap (λ (x : Stamp). 32 ∷ stampWord (stampHeld x)) e))
+laid : (s : tie.Start) {x : Stamp} {now : List ℕ} {next : ℕ} → s.args.stamp ≡ x → Laid s.args.at (32 ∷ stamp_word (stamp_held x)) s.args.out.now now next → Laid s.args.at (32 ∷ stamp_word (stamp_held s.args.stamp)) s.args.out.now now next
+laid s e = laid_as s.args.at s.args.out.now (sym (ap (λ (x : Stamp). 32 ∷ stamp_word (stamp_held x)) e))
 
 enum_told : tie.Need-enum-told
 enum_told c = search rules

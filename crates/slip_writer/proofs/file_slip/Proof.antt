@@ -8,21 +8,21 @@ use lib.ListN.{length}
 use Rattle.foundation.specs.Lists.{All}
 use Rattle.definitions.specs.Limits.{base}
 use Rattle.lot_format.specs.Numbers.{Byte}
-use Rattle.lot_format.specs.NumberLaws.{bytes-by-place}
-use Rattle.lot_format.specs.Format.{lotFile}
+use Rattle.lot_format.specs.NumberLaws.{bytes_by_place}
+use Rattle.lot_format.specs.Format.{lot_file}
 use Rattle.lot_format.specs.Runs.{Runs}
 use Rattle.lot_reader.specs.Promise.{Read}
-use Rattle.slip_format.specs.Slip.{slipLimits, slipOf}
+use Rattle.slip_format.specs.Slip.{slip_limits, slip_of}
 use Rattle.bytes_output.specs.Behind.{laid_as}
-use Rattle.slip_room_theory.specs.Promise.{slip-room}
-use Rattle.slip_answers.specs.Answered.{answeredSlip}
-use Rattle.slip_writer.proofs.Files.{answered-slip, read-counted}
+use Rattle.slip_room_theory.specs.Promise.{slip_room}
+use Rattle.slip_answers.specs.Answered.{answered_slip}
+use Rattle.slip_writer.proofs.Files.{answered_slip_law, read_counted}
 use Rattle.slip_writer.proofs.file_slip.Statement.{statement}
 use Rattle.slip_writer.proofs.file_slip.Tie as tie
 
 -- the bytes of the file; the runs before and after the reading, and its answer
-bytes-in : (w : tie.After-read) → All Byte w.before.before.before.before.before.before.before.before.before.before.before.before.before.args.file.now
-bytes-in w = bytes-by-place w.before.before.before.before.before.before.before.before.before.before.before.before.before.args.file.now (λ i. omega (arith, w.before.before.before.before.before.before.before.before.before.before.before.shared-slice-known.given i))
+bytes_in : (w : tie.After-read) → All Byte w.before.before.before.before.before.before.before.before.before.before.before.before.before.args.file.now
+bytes_in w = bytes_by_place w.before.before.before.before.before.before.before.before.before.before.before.before.before.args.file.now (λ i. omega (arith, w.before.before.before.before.before.before.before.before.before.before.before.shared-slice-known.given i))
 
 abbrev lentIn : tie.Start → Runs
 lentIn s = record { label = []; nodes = s.args.nodes.now; elements = s.args.elements.now; names = s.args.names.now; lengths = s.args.lengths.now; offsets = s.args.offsets.now }
@@ -34,14 +34,14 @@ abbrev answerAt : tie.After-read → List ℕ
 answerAt w = w.read.new.1.1.1.1.1.1.0
 
 handed : (w : tie.After-read) → Read w.before.before.before.before.before.before.before.before.before.before.before.before.before.args.file.now (lentIn w.before.before.before.before.before.before.before.before.before.before.before.before.before) (nowAt w) (answerAt w)
-handed w = let e = w.read.ensures in record { label_is = e.0; nodes-are = e.1.0; elements-are = e.1.1.0; names-are = e.1.1.1.0; lengths-are = e.1.1.1.1.0; offsets_are = e.1.1.1.1.1.0; answer-is = e.1.1.1.1.1.1.0 }
+handed w = let e = w.read.ensures in record { label_is = e.0; nodes_are = e.1.0; elements_are = e.1.1.0; names_are = e.1.1.1.0; lengths_are = e.1.1.1.1.0; offsets_are = e.1.1.1.1.1.0; answer_is = e.1.1.1.1.1.1.0 }
 
 -- the slip that the answer gives
-answered-as : (w : tie.After-read) → answeredSlip (nowAt w) (answerAt w) ≡ slipOf base lotFile slipLimits w.before.before.before.before.before.before.before.before.before.before.before.before.before.args.file.now
-answered-as w =
+answered_as : (w : tie.After-read) → answered_slip (nowAt w) (answerAt w) ≡ slip_of base lot_file slip_limits w.before.before.before.before.before.before.before.before.before.before.before.before.before.args.file.now
+answered_as w =
     let s = w.before.before.before.before.before.before.before.before.before.before.before.before.before in
     let p = s.requires.0 in
-    answered-slip s.args.file.now (lentIn s) (nowAt w) (answerAt w) (bytes-in w) (handed w) (record { nodes = p.0; elements = p.1; names = p.2; lengths = p.3; offsets = p.4 })
+    answered_slip_law s.args.file.now (lentIn s) (nowAt w) (answerAt w) (bytes_in w) (handed w) (record { nodes = p.0; elements = p.1; names = p.2; lengths = p.3; offsets = p.4 })
 
 read-requires : tie.Need-read-requires
 read-requires c κs = search rules
@@ -50,8 +50,8 @@ answered-slip-requires : tie.Need-answered-slip-requires
 answered-slip-requires c κs =
     let w = c.before.before.before.before.before.before.before.before.before.before.before.before.before.before.before.before in
     let s = c.before.before.before.before.before.before.before.before.before.before.before.before.before.before.before.before.before.before.before.before.before.before.before.before.before.before.before.before.before in
-    let same = ap length (answered-as w) in
-    ((read-counted s.args.file.now (lentIn s) (nowAt w) (answerAt w) (bytes-in w) (handed w), s.requires.0.5), omega (arith, s.requires.1, slip-room s.args.file.now (bytes-in w)))
+    let same = ap length (answered_as w) in
+    ((read_counted s.args.file.now (lentIn s) (nowAt w) (answerAt w) (bytes_in w) (handed w), s.requires.0.5), omega (arith, s.requires.1, slip_room s.args.file.now (bytes_in w)))
 
 same_length : tie.Need-same-length
 same_length c = search rules
@@ -75,7 +75,7 @@ same-length-7 : tie.Need-same-length-7
 same-length-7 c = search rules
 
 returns : tie.Need-returns
-returns c = let s = c.before.before.before.before.before.before.before.before.before.before.before.before.before.before.before.before.before.before.before.before.before.before.before.before.before.before.before.before.before.before.before.before.before in laid_as s.args.at s.args.out.now (answered-as c.before.before.before.before.before.before.before.before.before.before.before.before.before.before.before.before.before.before.before.before) c.before.before.before.answered-slip.ensures
+returns c = let s = c.before.before.before.before.before.before.before.before.before.before.before.before.before.before.before.before.before.before.before.before.before.before.before.before.before.before.before.before.before.before.before.before.before in laid_as s.args.at s.args.out.now (answered_as c.before.before.before.before.before.before.before.before.before.before.before.before.before.before.before.before.before.before.before.before) c.before.before.before.answered_slip_law.ensures
 
 pub file-slip-spec : {M : Type 1} → statement M
 file-slip-spec =

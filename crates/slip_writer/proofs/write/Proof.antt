@@ -2,10 +2,10 @@
 use mathlib.Core.Path.{◌∙◌}
 use native.Mathlib.Omega.{arith}
 use borrow.Author.Rules.{rules}
-use Rattle.foundation.specs.Laid.{put-start}
+use Rattle.foundation.specs.Laid.{put_start}
 use Rattle.definitions.specs.Limits.{base}
-use Rattle.lot_format.specs.Format.{lotFile}
-use Rattle.slip_format.specs.Slip.{slipLimits, slipOf}
+use Rattle.lot_format.specs.Format.{lot_file}
+use Rattle.slip_format.specs.Slip.{slip_limits, slip_of}
 use Rattle.slip_writer.proofs.write.Statement.{statement}
 use Rattle.slip_writer.proofs.write.Tie as tie
 
@@ -31,7 +31,7 @@ file-slip-requires : tie.Need-file-slip-requires
 file-slip-requires c κs = search rules
 
 returns : tie.Need-returns
-returns c = let s = c.before.before.before.before.before.before.before.before.before.before.before.before.before.before.before in let e = c.before.before.before.before.before.before.file-slip.ensures in (omega (arith, e.0), e.1 ∙ put-start (slipOf base lotFile slipLimits s.args.file.now) s.args.out.now)
+returns c = let s = c.before.before.before.before.before.before.before.before.before.before.before.before.before.before.before in let e = c.before.before.before.before.before.before.file-slip.ensures in (omega (arith, e.0), e.1 ∙ put_start (slip_of base lot_file slip_limits s.args.file.now) s.args.out.now)
 
 pub write_spec : {M : Type 1} → statement M
 write_spec =

@@ -6,8 +6,8 @@ use Rattle.definitions.specs.TwoWords.{value}
 use Rattle.definitions.specs.Eighths.{Eighth}
 use Rattle.verdict_theory.specs.Extremes.{extremes}
 use Rattle.search_theory.specs.Levels.{whole_of}
-use Rattle.search_theory.specs.Bounds.{bounds-are}
-use Rattle.wrapping_theory.specs.Words.{value-above}
+use Rattle.search_theory.specs.Bounds.{bounds_are}
+use Rattle.wrapping_theory.specs.Words.{value_above}
 use Rattle.wide_array.specs.Values.{values}
 use Rattle.wide_array.specs.Word.{largest}
 use borrow.Author.Rules.{rules}
@@ -15,7 +15,7 @@ use Rattle.wide_bounds.proofs.bounds.Statement.{statement}
 use Rattle.wide_bounds.proofs.bounds.Tie as tie
 
 greatest : value 18446744073709551615 9223372036854775807 ≡ pos largest
-greatest = value-above 18446744073709551615 9223372036854775807 (omega arith)
+greatest = value_above 18446744073709551615 9223372036854775807 (omega arith)
 
 least-of-requires : tie.Need-least-of-requires
 least-of-requires c κs = search rules
@@ -25,7 +25,7 @@ survey-requires c κs = (c.before.requires, ap (λ (e : Eighth). e.least) c.leas
 
 returns : tie.Need-returns
 returns c xs e = let s = c.before.before in let g = values s.args.g.now in
-    c.survey.ensures (whole_of g) refl ∙ ap (λ (z : ℤ). extremes s.args.depth (whole_of g) (record { low = z; high = z })) greatest ∙ bounds-are largest xs g s.args.depth e s.requires
+    c.survey.ensures (whole_of g) refl ∙ ap (λ (z : ℤ). extremes s.args.depth (whole_of g) (record { low = z; high = z })) greatest ∙ bounds_are largest xs g s.args.depth e s.requires
 
 pub bounds-spec : {M : Type 1} → statement M
 bounds-spec = tie.close (tie.spec least-of-requires survey-requires returns)

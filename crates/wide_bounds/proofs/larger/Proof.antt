@@ -7,8 +7,8 @@ use mir.Syntax.{w128}
 use mir.Val.{SFits}
 use Rattle.foundation.specs.Words.{Op, arg, lit, times, args}
 use Rattle.verdict_theory.specs.Skipped.{cubed}
-use Rattle.wrapping_theory.specs.Words.{value-fits}
-use Rattle.wrapping_theory.specs.Runs.{run-exact, size_fits}
+use Rattle.wrapping_theory.specs.Words.{value_fits}
+use Rattle.wrapping_theory.specs.Runs.{run_exact, size_fits}
 use Rattle.wide_number.specs.Meaning.{value_of, modulo}
 use Rattle.wide_array.specs.Word.{largest}
 use borrow.Author.Rules.{rules}
@@ -29,8 +29,8 @@ four-times-requires-3 c κs = search rules
 
 returns : tie.Need-returns
 returns c = let x = value_of c.before.before.before.args.x in
-    run-exact w128 (args (x ∷ [])) whole (value-fits _ _ (record { low-word = omega arith; high-word = omega arith }))
-    (c.four-times3.ensures ∙ ap (λ (z : ℤ). modulo (pos 4 *ℤ z)) (c.before.four-times2.ensures ∙ ap (λ (z : ℤ). modulo (pos 4 *ℤ z)) c.before.before.four-times.ensures))
+    run_exact w128 (args (x ∷ [])) whole (value_fits _ _ (record { low_word_fits = omega arith; high_word_fits = omega arith }))
+    (c.four-times3.ensures ∙ ap (λ (z : ℤ). modulo (pos 4 *ℤ z)) (c.before.four-times2.ensures ∙ ap (λ (z : ℤ). modulo (pos 4 *ℤ z)) c.before.before.four_times.ensures))
     (subst (SFits w128) (sym (cubed x)) (size_fits w128 largest (pos 64 *ℤ x) c.before.before.before.requires tt))
     ∙ cubed x
 

@@ -6,7 +6,7 @@ use mathlib.Core.List.{List}
 use lib.ListN.{length, take}
 use lib.Seq.{take-suc}
 use lib.IntN.{pos}
-use Rattle.foundation.specs.Least.{lesser, leastOf}
+use Rattle.foundation.specs.Least.{lesser, least_of}
 use Rattle.search_theory.specs.Bounds.{corner-next}
 use Rattle.wide_number.specs.Meaning.{value_of}
 use Rattle.wide_array.specs.Values.{values, values_length, value_read}
@@ -15,7 +15,7 @@ use Rattle.wide_bounds.proofs.least_corner.Statement.{statement}
 use Rattle.wide_bounds.proofs.least_corner.Tie as tie
 
 abbrev invariant-loop : tie.invariant-loop
-invariant-loop g r₀ n₀ r n = (1 ≤ n) × (n ≤ 8) × (value_of r ≡ leastOf (take n (values g)))
+invariant-loop g r₀ n₀ r n = (1 ≤ n) × (n ≤ 8) × (value_of r ≡ least_of (take n (values g)))
 
 abbrev decreases-loop : tie.decreases-loop
 decreases-loop g r₀ n₀ r n = 8 - n
@@ -29,7 +29,7 @@ at-requires c κs = omega arith
 
 loop-holds : tie.Need-loop-init invariant-loop decreases-loop
 loop-holds c = let g = c.before.args.g.now in let h : 0 < 27 = omega arith in
-    (omega arith, omega arith, value_read g 0 h c.at.ensures ∙ sym (ap leastOf (take-suc (values g) 0 (pos 0) (inside g 0 h))))
+    (omega arith, omega arith, value_read g 0 h c.at.ensures ∙ sym (ap least_of (take-suc (values g) 0 (pos 0) (inside g 0 h))))
 
 at-requires-2 : tie.Need-at-requires-2 invariant-loop decreases-loop
 at-requires-2 c κs = omega arith
@@ -51,7 +51,7 @@ loop-again c = let l = c.before.before.before in let g = l.before.before.args.g.
 )
 
 returns : tie.Need-returns invariant-loop decreases-loop
-returns c = let l = c.before in let e : l.loop.n ≡ 8 = omega arith in l.loop.invariant.2 ∙ ap (λ (n : ℕ). leastOf (take n (values l.before.before.args.g.now))) e
+returns c = let l = c.before in let e : l.loop.n ≡ 8 = omega arith in l.loop.invariant.2 ∙ ap (λ (n : ℕ). least_of (take n (values l.before.before.args.g.now))) e
 
 pub least-corner-spec : {M : Type 1} → statement M
 least-corner-spec =

@@ -4,7 +4,7 @@ use Prim.Native.Nat.{ℕ, ◌+◌, ◌-◌, ◌^◌, ◌≤◌, zero-le}
 use native.Mathlib.Omega.{arith}
 use borrow.Author.Rules.{rules}
 use lib.IntN.{ℤ, pos, nat_abs, ◌*ℤ◌}
-use Rattle.foundation.specs.Ring.{one-mul}
+use Rattle.foundation.specs.Ring.{one_mul}
 use Rattle.search_theory.specs.Bounds.{scaled-next, scaled-room}
 use Rattle.wide_number.specs.Meaning.{value_of}
 use Rattle.wide_array.specs.Word.{largest}
@@ -22,7 +22,7 @@ more : (n : ℕ) (x y : ℤ) → y ≡ pos (64 ^ n) *ℤ x → pos 64 *ℤ y ≡
 more n x y e = ap (λ (z : ℤ). pos 64 *ℤ z) e ∙ scaled-next n x
 
 loop-holds : tie.Need-loop-init invariant-loop decreases-loop
-loop-holds c = (zero-le, sym (one-mul _))
+loop-holds c = (zero-le, sym (one_mul _))
 
 larger-requires : tie.Need-larger-requires invariant-loop decreases-loop
 larger-requires c κs = let l = c.before in let s = l.before in let n = l.loop.n in let x = value_of s.args.x in

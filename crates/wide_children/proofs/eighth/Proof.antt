@@ -2,7 +2,7 @@
 use mathlib.Core.Path.{◌∙◌, ap}
 use Prim.Native.Nat.{ℕ}
 use Rattle.definitions.specs.Subdivision.{halve}
-use Rattle.definitions.specs.Eighths.{eighthOf}
+use Rattle.definitions.specs.Eighths.{eighth_of}
 use Rattle.wide_array.specs.Values.{values}
 use borrow.Author.Rules.{rules}
 use Rattle.wide_children.proofs.eighth.Statement.{statement}
@@ -23,7 +23,7 @@ number-requires c κs = search rules
 returns : tie.Need-returns
 returns c = let quarter = values c.before.before.before.before.before.before.before.args.quarter.now in let made = c.before.before.before.before.halve.ensures in (
   (λ i. record { control = values c.before.before.before.before.halve.new.1.1.1.0; least = c.before.before.value.ensures i; number = c.number.ensures i })
-      ∙ ap eighthOf (made.0 ∙ ap (λ (h : ℕ). halve 0 h quarter) c.before.before.before.before.before.before.side.ensures.0),
+      ∙ ap eighth_of (made.0 ∙ ap (λ (h : ℕ). halve 0 h quarter) c.before.before.before.before.before.before.side.ensures.0),
   made.1,
 )
 

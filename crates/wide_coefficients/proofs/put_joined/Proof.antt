@@ -9,14 +9,14 @@ use lib.IntN.{ℤ, pos, ◌+ℤ◌, ◌*ℤ◌}
 use mir.Syntax.{w64}
 use mir.Val.{SFits, to_z, of_z}
 use mir.Facts.{to_z-of_z}
-use Rattle.foundation.specs.Filled.{all-filled}
+use Rattle.foundation.specs.Filled.{all_filled}
 use Rattle.foundation.specs.Words.{args}
-use Rattle.wide_coefficients.specs.Joined.{joinAt, Begun, begin, next}
+use Rattle.wide_coefficients.specs.Joined.{join_at, Begun, begin, next}
 use Rattle.wide_coefficients.proofs.put_joined.Statement.{statement}
 use Rattle.wide_coefficients.proofs.put_joined.Tie as tie
 
 -- what two locals read back, joined
-back : (high low : List ℤ) (k : ℕ) → SFits w64 (args high k) → SFits w64 (args low k) → pos 2048 *ℤ to_z w64 (of_z w64 (args high k)) +ℤ to_z w64 (of_z w64 (args low k)) ≡ joinAt high low k
+back : (high low : List ℤ) (k : ℕ) → SFits w64 (args high k) → SFits w64 (args low k) → pos 2048 *ℤ to_z w64 (of_z w64 (args high k)) +ℤ to_z w64 (of_z w64 (args low k)) ≡ join_at high low k
 back high low k f g = ap₂ (λ (a b : ℤ). pos 2048 *ℤ a +ℤ b) (to_z-of_z f) (to_z-of_z g)
 
 abbrev invariant-loop : tie.invariant-loop
@@ -61,7 +61,7 @@ loop-again c = let j = c.before.before in let l = j.before.before.before.before 
 
 returns : tie.Need-returns invariant-loop decreases-loop
 returns c = let l = c.before in let e : l.loop.k ≡ 27 = omega arith in let b = subst (λ (n : ℕ). Begun l.before.args.high.now l.before.args.low.now n l.loop.out) e l.loop.invariant.1 in
-    (all-filled _ b.numbers, b.words)
+    (all_filled _ b.numbers, b.words)
 
 pub put-joined-spec : {M : Type 1} → statement M
 put-joined-spec =

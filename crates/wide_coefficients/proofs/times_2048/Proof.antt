@@ -3,7 +3,7 @@ use mathlib.Core.Path.{refl}
 use Prim.Native.Nat.{◌^◌, ◌<◌}
 use native.Mathlib.Omega.{arith}
 use Rattle.wrapping_theory.specs.Columns.{shift_fits, shifted}
-use Rattle.wrapping_theory.specs.Words.{multiple-wrapped}
+use Rattle.wrapping_theory.specs.Words.{multiple_wrapped}
 use Rattle.wide_coefficients.proofs.times_2048.Statement.{statement}
 use Rattle.wide_coefficients.proofs.times_2048.Tie as tie
 
@@ -12,7 +12,7 @@ add-t5 c = let x = c.before.before.before.args.x in record { fits = shift_fits (
 
 returns : tie.Need-returns
 returns c = let x = c.before.before.before.args.x in let l : x.low < 2 ^ 64 = omega arith in
-    multiple-wrapped 2048 {a = x.low} {b = x.high} (record { low-word = l; high-word = omega arith }) (record { low-word = omega arith; high-word = shift_fits (2 ^ 64) 2048 (2 ^ 53) refl (omega arith) x.low x.high (omega arith) l })
+    multiple_wrapped 2048 {a = x.low} {b = x.high} (record { low_word_fits = l; high_word_fits = omega arith }) (record { low_word_fits = omega arith; high_word_fits = shift_fits (2 ^ 64) 2048 (2 ^ 53) refl (omega arith) x.low x.high (omega arith) l })
     (shifted (2 ^ 64) 2048 (2 ^ 53) refl (omega arith) x.low x.high (omega arith) l)
 
 pub times-2048-spec : {M : Type 1} → statement M

@@ -4,15 +4,15 @@ use mathlib.Core.List.{[], ◌∷◌}
 use Prim.Native.Nat.{◌≤◌}
 use lib.IntN.{ℤ, nat_abs}
 use Rattle.foundation.specs.Words.{args}
-use Rattle.search_theory.specs.Grid.{middle, middles-fit}
+use Rattle.search_theory.specs.Grid.{middle, middles_fit}
 use Rattle.wide_array.specs.Values.{values}
-use Rattle.wide_array.specs.Word.{largest, cutLargest, can-be-cut}
+use Rattle.wide_array.specs.Word.{largest, cut_largest, can_be_cut}
 use borrow.Author.Rules.{rules}
 use Rattle.wide_grid.proofs.middle_across.Statement.{statement}
 use Rattle.wide_grid.proofs.middle_across.Tie as tie
 
 abbrev Cut : ℤ → Type 0
-Cut z = nat_abs z ≤ cutLargest
+Cut z = nat_abs z ≤ cut_largest
 
 middle-at-requires : tie.Need-middle-at-requires
 middle-at-requires c κs = search rules
@@ -24,7 +24,7 @@ middle-at-requires-3 : tie.Need-middle-at-requires-3
 middle-at-requires-3 c κs = search rules
 
 end-requires : tie.Need-end-requires
-end-requires c κs = let s = c.before.before.before in let fit = middles-fit largest cutLargest can-be-cut (values s.args.g.now) s.requires.0 s.args.a s.args.b s.args.c s.args.d s.args.e s.args.f s.args.x s.args.y s.args.z in
+end-requires c κs = let s = c.before.before.before in let fit = middles_fit largest cut_largest can_be_cut (values s.args.g.now) s.requires.0 s.args.a s.args.b s.args.c s.args.d s.args.e s.args.f s.args.x s.args.y s.args.z in
     (subst Cut (sym c.before.before.middle-at.ensures) fit.0, (subst Cut (sym c.before.middle-at2.ensures) fit.1.0, (subst Cut (sym c.middle-at3.ensures) fit.1.1.0, tt)))
 
 returns : tie.Need-returns

@@ -4,10 +4,10 @@ use mathlib.Core.List.{List}
 use lib.IntN.{ℤ}
 use Rattle.foundation.specs.Words.{args, Within}
 use Rattle.expansion_theory.specs.Rows.{line_at}
-use Rattle.search_theory.specs.Grid.{middle, line-fits}
+use Rattle.search_theory.specs.Grid.{middle, line_fits}
 use Rattle.wide_array.specs.Values.{values}
-use Rattle.wide_array.specs.Word.{largest, cutLargest, can-be-cut}
-use Rattle.wide_array.specs.Rows.{read-row}
+use Rattle.wide_array.specs.Word.{largest, cut_largest, can_be_cut}
+use Rattle.wide_array.specs.Rows.{read_row}
 use borrow.Author.Rules.{rules}
 use Rattle.wide_grid.proofs.middle_at.Statement.{statement}
 use Rattle.wide_grid.proofs.middle_at.Tie as tie
@@ -16,8 +16,8 @@ module _ (s : tie.Start) where
   abbrev g : List ℤ
   g = values s.args.g.now
 
-  fits : Within cutLargest (line_at g s.args.x s.args.y s.args.z)
-  fits = line-fits largest cutLargest can-be-cut g s.pre.0 s.args.x s.args.y s.args.z
+  fits : Within cut_largest (line_at g s.args.x s.args.y s.args.z)
+  fits = line_fits largest cut_largest can_be_cut g s.pre.0 s.args.x s.args.y s.args.z
 
 at-requires : tie.Need-at-requires
 at-requires c κs = search rules
@@ -29,10 +29,10 @@ at-requires-3 : tie.Need-at-requires-3
 at-requires-3 c κs = search rules
 
 end-requires : tie.Need-end-requires
-end-requires c κs = let s = c.before.before.before in subst (Within cutLargest) (sym (read-row s.args.g.now s.args.x s.args.y s.args.z s.requires.1 s.requires.2 s.requires.3 c.before.before.at.ensures c.before.at2.ensures c.at3.ensures)) (fits s)
+end-requires c κs = let s = c.before.before.before in subst (Within cut_largest) (sym (read_row s.args.g.now s.args.x s.args.y s.args.z s.requires.1 s.requires.2 s.requires.3 c.before.before.at.ensures c.before.at2.ensures c.at3.ensures)) (fits s)
 
 returns : tie.Need-returns
-returns c = let s = c.before.before.before.before in c.end.ensures ∙ ap (λ (xs : List ℤ). middle (args xs)) (read-row s.args.g.now s.args.x s.args.y s.args.z s.requires.1 s.requires.2 s.requires.3 c.before.before.before.at.ensures c.before.before.at2.ensures c.before.at3.ensures)
+returns c = let s = c.before.before.before.before in c.end.ensures ∙ ap (λ (xs : List ℤ). middle (args xs)) (read_row s.args.g.now s.args.x s.args.y s.args.z s.requires.1 s.requires.2 s.requires.3 c.before.before.before.at.ensures c.before.before.at2.ensures c.before.at3.ensures)
 
 pub middle-at-spec : {M : Type 1} → statement M
 middle-at-spec = tie.close (tie.spec at-requires at-requires-2 at-requires-3 end-requires returns)

@@ -1,5 +1,5 @@
 -- `wide_least::least_of` meets its contract: the value and then its number. Assumes nothing.
-use Rattle.definitions.specs.Eighths.{eighthOf}
+use Rattle.definitions.specs.Eighths.{eighth_of}
 use Rattle.wide_array.specs.Values.{values}
 use borrow.Author.Rules.{rules}
 use Rattle.wide_least.proofs.least_of.Statement.{statement}

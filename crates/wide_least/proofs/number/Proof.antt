@@ -4,7 +4,7 @@ use Prim.Native.Nat.{◌-◌}
 use native.Mathlib.Omega.{arith}
 use borrow.Author.Rules.{rules}
 use lib.Signed.{le_z}
-use Rattle.search_theory.specs.Eighths.{Above, above-none, above-here, above_on, above-all}
+use Rattle.search_theory.specs.Eighths.{Above, above_none, above_here, above_on, above_all}
 use Rattle.wide_array.specs.Values.{values, values_length, value_read}
 use Rattle.wide_least.proofs.number.Statement.{statement}
 use Rattle.wide_least.proofs.number.Tie as tie
@@ -16,7 +16,7 @@ abbrev decreases-loop : tie.decreases-loop
 decreases-loop g v k₀ k = 27 - k
 
 loop-holds : tie.Need-loop-init invariant-loop decreases-loop
-loop-holds c = above-none (values c.args.g.now)
+loop-holds c = above_none (values c.args.g.now)
 
 at-requires : tie.Need-at-requires invariant-loop decreases-loop
 at-requires c κs = omega arith
@@ -29,7 +29,7 @@ add-result c = search rules
 
 returns : tie.Need-returns invariant-loop decreases-loop
 returns c = let l = c.before.before.before.before in let s = l.before in let g = s.args.g.now in let x = value_read g l.loop.k (omega arith) c.before.before.at.ensures in
-    above-here (values g) (values_length g) (omega arith) l.loop.invariant (sym (ap₂ le_z x s.requires) ∙ sym c.before.at_most.ensures ∙ c.if1.true)
+    above_here (values g) (values_length g) (omega arith) l.loop.invariant (sym (ap₂ le_z x s.requires) ∙ sym c.before.at_most.ensures ∙ c.if1.true)
 
 add-k : tie.Need-overflow-add-k invariant-loop decreases-loop
 add-k c = search rules
@@ -42,7 +42,7 @@ loop-again c = let l = c.before.before.before.before in let s = l.before in let 
     above_on (values g) (omega arith) l.loop.invariant (sym (ap₂ le_z x s.requires) ∙ sym c.before.at_most.ensures ∙ c.if1.false)
 
 returns-2 : tie.Need-returns-2 invariant-loop decreases-loop
-returns-2 c = let l = c.before in let g = l.before.args.g.now in absurd (above-all (values g) (values_length g) l.loop.invariant (omega arith))
+returns-2 c = let l = c.before in let g = l.before.args.g.now in absurd (above_all (values g) (values_length g) l.loop.invariant (omega arith))
 
 pub number-spec : {M : Type 1} → statement M
 number-spec =

@@ -5,7 +5,7 @@ use native.Mathlib.Omega.{arith}
 use borrow.Author.Rules.{rules}
 use lib.IntN.{ℤ, pos}
 use lib.Signed.{le_z}
-use Rattle.search_theory.specs.Lowest.{Passed, passed_none, passed_here, passed_on, passed-all}
+use Rattle.search_theory.specs.Lowest.{Passed, passed_none, passed_here, passed_on, passed_all}
 use Rattle.wide_array.specs.Values.{values, value_read}
 use Rattle.wide_lowest.proofs.lowest.Statement.{statement}
 use Rattle.wide_lowest.proofs.lowest.Tie as tie
@@ -43,7 +43,7 @@ loop-again c = let l = c.before.before.before.before in let g = l.before.args.g.
     passed_on (values g) (omega arith) l.loop.invariant (sym (ap (λ (z : ℤ). le_z z (pos 0)) (value_read g l.loop.k (omega arith) c.before.before.at.ensures)) ∙ sym c.before.at-most-zero.ensures ∙ c.if1.false)
 
 returns-2 : tie.Need-returns-2 invariant-loop decreases-loop
-returns-2 c = let l = c.before in (passed-all (values l.before.args.g.now) l.loop.invariant (omega arith), omega arith)
+returns-2 c = let l = c.before in (passed_all (values l.before.args.g.now) l.loop.invariant (omega arith), omega arith)
 
 pub lowest-spec : {M : Type 1} → statement M
 lowest-spec =

@@ -1,7 +1,7 @@
 -- `signed` meets its contract. Assumes nothing.
 use Rattle.std.proofs.Common.{◌≡◌, suc, ◌-◌, ◌^◌, ◌<◌, sym, ap, ◌∙◌, arith, w64, to_z, rules}
 use mir.Facts.{to_z-neg}
-use Rattle.wide_number.proofs.TwosComplement.{inverted, inverted-fits}
+use Rattle.wide_number.proofs.TwosComplement.{inverted, inverted_fits}
 use Rattle.wide_number.proofs.signed.Statement.{statement}
 use Rattle.wide_number.proofs.signed.Tie as tie
 
@@ -18,7 +18,7 @@ cast-result-2 : tie.Need-overflow-cast-result-2
 cast-result-2 c = search rules
 
 sub-result-2 : tie.Need-overflow-sub-result-2
-sub-result-2 c = inverted-fits (18446744073709551615 - c.before.args.word) (omega arith)
+sub-result-2 c = inverted_fits (18446744073709551615 - c.before.args.word) (omega arith)
 
 returns-2 : tie.Need-returns-2
 returns-2 c = let n = 18446744073709551615 - c.before.args.word in let l : n < 2 ^ 63 = omega arith in let e : 2 ^ 64 - suc n ≡ c.before.args.word = omega arith in

@@ -5,10 +5,10 @@ use native.Mathlib.Omega.{arith}
 use lib.IntN.{ℤ, pos, ◌+ℤ◌}
 use mir.Syntax.{w128}
 use Rattle.foundation.specs.Words.{arg, lit, plus, times, args, within}
-use Rattle.wrapping_theory.specs.Words.{value-fits}
-use Rattle.wrapping_theory.specs.Runs.{run-bounded}
+use Rattle.wrapping_theory.specs.Words.{value_fits}
+use Rattle.wrapping_theory.specs.Runs.{run_bounded}
 use Rattle.wide_number.specs.Meaning.{value_of, modulo}
-use Rattle.wide_array.specs.Word.{cutLargest}
+use Rattle.wide_array.specs.Word.{cut_largest}
 use borrow.Author.Rules.{rules}
 use Rattle.wide_rows.proofs.end.Statement.{statement}
 use Rattle.wide_rows.proofs.end.Tie as tie
@@ -28,8 +28,8 @@ add-requires-2 c κs = search rules
 
 returns : tie.Need-returns
 returns c = let s = c.before.before.before in
-    run-bounded w128 (args (row s)) (plus (plus (arg 0) (times (lit (pos 2)) (arg 1))) (arg 2)) (value-fits _ _ (record { low-word = omega arith; high-word = omega arith }))
-    (c.add2.ensures ∙ ap (λ (z : ℤ). modulo (z +ℤ value_of s.args.r)) (c.before.add.ensures ∙ ap (λ (z : ℤ). modulo (value_of s.args.p +ℤ z)) c.before.before.twice.ensures)) (λ _. cutLargest) (within cutLargest (row s) s.requires) tt
+    run_bounded w128 (args (row s)) (plus (plus (arg 0) (times (lit (pos 2)) (arg 1))) (arg 2)) (value_fits _ _ (record { low_word_fits = omega arith; high_word_fits = omega arith }))
+    (c.add2.ensures ∙ ap (λ (z : ℤ). modulo (z +ℤ value_of s.args.r)) (c.before.add.ensures ∙ ap (λ (z : ℤ). modulo (value_of s.args.p +ℤ z)) c.before.before.twice.ensures)) (λ _. cut_largest) (within cut_largest (row s) s.requires) tt
 
 pub end-spec : {M : Type 1} → statement M
 end-spec = tie.close (tie.spec twice-requires add-requires add-requires-2 returns)

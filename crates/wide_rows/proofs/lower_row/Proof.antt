@@ -5,13 +5,13 @@ use Prim.Native.Nat.{ℕ, ◌<◌}
 use lib.IntN.{ℤ}
 use Rattle.foundation.specs.Polynomial.{integers}
 use Rattle.foundation.specs.Words.{args, Within}
-use Rattle.definitions.specs.Subdivision.{cutRow}
+use Rattle.definitions.specs.Subdivision.{cut_row}
 use Rattle.expansion_theory.specs.Rows.{line_at}
 use Rattle.expansion_theory.specs.RowLaws.{row_small}
 use Rattle.wide_number.specs.Meaning.{value_of}
 use Rattle.wide_array.specs.Values.{values}
-use Rattle.wide_array.specs.Word.{cutLargest}
-use Rattle.wide_array.specs.Rows.{read-row, row_within, row_put}
+use Rattle.wide_array.specs.Word.{cut_largest}
+use Rattle.wide_array.specs.Rows.{read_row, row_within, row_put}
 use Rattle.wide_rows.proofs.lower_row.Statement.{statement}
 use Rattle.wide_rows.proofs.lower_row.Tie as tie
 
@@ -31,13 +31,13 @@ module _ (m : tie.After-at3) where
   line = line_at (values entry.args.c.now) entry.args.x entry.args.y entry.args.z
 
   row_is : row ≡ line
-  row_is = let k = small entry in read-row entry.args.c.now entry.args.x entry.args.y entry.args.z k.0 k.1 k.2 m.before.before.at.ensures m.before.at2.ensures m.at3.ensures
+  row_is = let k = small entry in read_row entry.args.c.now entry.args.x entry.args.y entry.args.z k.0 k.1 k.2 m.before.before.at.ensures m.before.at2.ensures m.at3.ensures
 
-  row_read : Within cutLargest row
-  row_read = subst (Within cutLargest) (sym row_is) (row_within entry.pre.1 entry.args.x entry.args.y entry.args.z)
+  row_read : Within cut_largest row
+  row_read = subst (Within cut_largest) (sym row_is) (row_within entry.pre.1 entry.args.x entry.args.y entry.args.z)
 
-  cut : (t : ℕ) → cutRow integers 0 (args row) t ≡ cutRow integers 0 (args line) t
-  cut t = ap (λ (xs : List ℤ). cutRow integers 0 (args xs) t) row_is
+  cut : (t : ℕ) → cut_row integers 0 (args row) t ≡ cut_row integers 0 (args line) t
+  cut t = ap (λ (xs : List ℤ). cut_row integers 0 (args xs) t) row_is
 
 at-requires : tie.Need-at-requires
 at-requires c κs = (small c).0

@@ -6,10 +6,10 @@ use lib.IntN.{ℤ, pos, ◌*ℤ◌}
 use mir.Syntax.{w128}
 use Rattle.foundation.specs.Polynomial.{var, con, add, mul, solve}
 use Rattle.foundation.specs.Words.{arg, lit, plus, times, args, within}
-use Rattle.wrapping_theory.specs.Words.{value-fits}
-use Rattle.wrapping_theory.specs.Runs.{run-bounded}
+use Rattle.wrapping_theory.specs.Words.{value_fits}
+use Rattle.wrapping_theory.specs.Runs.{run_bounded}
 use Rattle.wide_number.specs.Meaning.{value_of, modulo}
-use Rattle.wide_array.specs.Word.{cutLargest}
+use Rattle.wide_array.specs.Word.{cut_largest}
 use borrow.Author.Rules.{rules}
 use Rattle.wide_rows.proofs.middle.Statement.{statement}
 use Rattle.wide_rows.proofs.middle.Tie as tie
@@ -26,7 +26,7 @@ twice-requires c κs = search rules
 
 returns : tie.Need-returns
 returns c = let s = c.before.before in
-    run-bounded w128 (args (row s)) (times (lit (pos 2)) (plus (arg 0) (arg 1))) (value-fits _ _ (record { low-word = omega arith; high-word = omega arith })) (c.twice.ensures ∙ ap (λ (z : ℤ). modulo (pos 2 *ℤ z)) c.before.add.ensures) (λ _. cutLargest) (within cutLargest (row s) s.requires) tt
+    run_bounded w128 (args (row s)) (times (lit (pos 2)) (plus (arg 0) (arg 1))) (value_fits _ _ (record { low_word_fits = omega arith; high_word_fits = omega arith })) (c.twice.ensures ∙ ap (λ (z : ℤ). modulo (pos 2 *ℤ z)) c.before.add.ensures) (λ _. cut_largest) (within cut_largest (row s) s.requires) tt
     ∙ solve (args (row s)) (mul (con (pos 2)) (add (var 0) (var 1))) (add (mul (con (pos 2)) (var 0)) (mul (con (pos 2)) (var 1))) tt
 
 pub middle-spec : {M : Type 1} → statement M

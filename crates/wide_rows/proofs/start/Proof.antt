@@ -4,10 +4,10 @@ use native.Mathlib.Omega.{arith}
 use lib.IntN.{ℤ, pos}
 use mir.Syntax.{w128}
 use Rattle.foundation.specs.Words.{arg, lit, times, args, within}
-use Rattle.wrapping_theory.specs.Words.{value-fits}
-use Rattle.wrapping_theory.specs.Runs.{run-bounded}
+use Rattle.wrapping_theory.specs.Words.{value_fits}
+use Rattle.wrapping_theory.specs.Runs.{run_bounded}
 use Rattle.wide_number.specs.Meaning.{value_of}
-use Rattle.wide_array.specs.Word.{cutLargest}
+use Rattle.wide_array.specs.Word.{cut_largest}
 use borrow.Author.Rules.{rules}
 use Rattle.wide_rows.proofs.start.Statement.{statement}
 use Rattle.wide_rows.proofs.start.Tie as tie
@@ -21,7 +21,7 @@ four-times-requires c κs = search rules
 
 returns : tie.Need-returns
 returns c = let s = c.before in
-    run-bounded w128 (args (row s)) (times (lit (pos 4)) (arg 0)) (value-fits _ _ (record { low-word = omega arith; high-word = omega arith })) c.four-times.ensures (λ _. cutLargest) (within cutLargest (row s) s.requires) tt
+    run_bounded w128 (args (row s)) (times (lit (pos 4)) (arg 0)) (value_fits _ _ (record { low_word_fits = omega arith; high_word_fits = omega arith })) c.four_times.ensures (λ _. cut_largest) (within cut_largest (row s) s.requires) tt
 
 pub start_spec : {M : Type 1} → statement M
 start_spec = tie.close (tie.spec four-times-requires returns)

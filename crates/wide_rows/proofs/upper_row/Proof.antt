@@ -5,13 +5,13 @@ use Prim.Native.Nat.{ℕ, ◌<◌}
 use lib.IntN.{ℤ}
 use Rattle.foundation.specs.Polynomial.{integers}
 use Rattle.foundation.specs.Words.{args, Within}
-use Rattle.definitions.specs.Subdivision.{cutRow}
+use Rattle.definitions.specs.Subdivision.{cut_row}
 use Rattle.expansion_theory.specs.Rows.{line_at}
-use Rattle.expansion_theory.specs.RowLaws.{row_small, turned-start, turned-middle, turned-end}
+use Rattle.expansion_theory.specs.RowLaws.{row_small, turned_start, turned_middle, turned_end}
 use Rattle.wide_number.specs.Meaning.{value_of}
 use Rattle.wide_array.specs.Values.{values}
-use Rattle.wide_array.specs.Word.{cutLargest}
-use Rattle.wide_array.specs.Rows.{read-row, row_within, row_put}
+use Rattle.wide_array.specs.Word.{cut_largest}
+use Rattle.wide_array.specs.Rows.{read_row, row_within, row_put}
 use Rattle.wide_rows.proofs.upper_row.Statement.{statement}
 use Rattle.wide_rows.proofs.upper_row.Tie as tie
 
@@ -37,13 +37,13 @@ module _ (m : tie.After-at3) where
   line = line_at (values entry.args.c.now) entry.args.x entry.args.y entry.args.z
 
   row_is : (p ∷ q ∷ r ∷ []) ≡ line
-  row_is = let k = small entry in read-row entry.args.c.now entry.args.x entry.args.y entry.args.z k.0 k.1 k.2 m.before.before.at.ensures m.before.at2.ensures m.at3.ensures
+  row_is = let k = small entry in read_row entry.args.c.now entry.args.x entry.args.y entry.args.z k.0 k.1 k.2 m.before.before.at.ensures m.before.at2.ensures m.at3.ensures
 
-  turned-read : Within cutLargest (r ∷ q ∷ p ∷ [])
-  turned-read = let w : Within cutLargest (p ∷ q ∷ r ∷ []) = subst (Within cutLargest) (sym row_is) (row_within entry.pre.1 entry.args.x entry.args.y entry.args.z) in (w.1.1.0, (w.1.0, (w.0, tt)))
+  turned_read : Within cut_largest (r ∷ q ∷ p ∷ [])
+  turned_read = let w : Within cut_largest (p ∷ q ∷ r ∷ []) = subst (Within cut_largest) (sym row_is) (row_within entry.pre.1 entry.args.x entry.args.y entry.args.z) in (w.1.1.0, (w.1.0, (w.0, tt)))
 
-  cut : (t : ℕ) → cutRow integers 1 (args (p ∷ q ∷ r ∷ [])) t ≡ cutRow integers 1 (args line) t
-  cut t = ap (λ (xs : List ℤ). cutRow integers 1 (args xs) t) row_is
+  cut : (t : ℕ) → cut_row integers 1 (args (p ∷ q ∷ r ∷ [])) t ≡ cut_row integers 1 (args line) t
+  cut t = ap (λ (xs : List ℤ). cut_row integers 1 (args xs) t) row_is
 
 at-requires : tie.Need-at-requires
 at-requires c κs = (small c).0
@@ -55,20 +55,20 @@ at-requires-3 : tie.Need-at-requires-3
 at-requires-3 c κs = (small c.before.before).2
 
 end-requires : tie.Need-end-requires
-end-requires c κs = turned-read c
+end-requires c κs = turned_read c
 
 middle-requires : tie.Need-middle-requires
-middle-requires c κs = turned-read c.before
+middle-requires c κs = turned_read c.before
 
 start-requires : tie.Need-start-requires
-start-requires c κs = turned-read c.before.before
+start-requires c κs = turned_read c.before.before
 
 put-row-requires : tie.Need-put-row-requires
 put-row-requires c κs = let s = entry c.before.before.before.before in let k = small s in (k.0, k.1, k.2, s.pre.1.sized)
 
 returns : tie.Need-returns
 returns c = let e = c.before.before in let m = e.before.before.before in let s = entry m in
-    row_put s.pre.0 s.pre.1 _ _ _ _ _ _ (e.before.before.end.ensures ∙ turned-start (p m) (q m) (r m) ∙ cut m 0) (e.before.middle.ensures ∙ turned-middle (p m) (q m) (r m) ∙ cut m 1) (e.start.ensures ∙ turned-end (p m) (q m) (r m) ∙ cut m 2) c.put-row.ensures
+    row_put s.pre.0 s.pre.1 _ _ _ _ _ _ (e.before.before.end.ensures ∙ turned_start (p m) (q m) (r m) ∙ cut m 0) (e.before.middle.ensures ∙ turned_middle (p m) (q m) (r m) ∙ cut m 1) (e.start.ensures ∙ turned_end (p m) (q m) (r m) ∙ cut m 2) c.put-row.ensures
 
 pub upper-row-spec : {M : Type 1} → statement M
 upper-row-spec =

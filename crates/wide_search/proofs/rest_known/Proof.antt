@@ -2,9 +2,9 @@
 use mathlib.Core.Path.{sym, ◌∙◌}
 use Prim.Native.Nat.{◌-◌}
 use borrow.Author.Tests.{not-true, not-false}
-use Rattle.search_theory.specs.Visit.{rest_ended, rest-high, rest-deeper, rest-unblocked, rest-low}
+use Rattle.search_theory.specs.Visit.{rest_ended, rest_high, rest_deeper, rest_unblocked, rest_low}
 use Rattle.wide_array.specs.Values.{values}
-use Rattle.search_pass.specs.Meaning.{passWords}
+use Rattle.search_pass.specs.Meaning.{pass_words}
 use borrow.Author.Rules.{rules}
 use Rattle.wide_search.proofs.rest_known.Statement.{statement}
 use Rattle.wide_search.proofs.rest_known.Tie as tie
@@ -13,7 +13,7 @@ ended-requires : tie.Need-ended-requires
 ended-requires c κs = search rules
 
 returns : tie.Need-returns
-returns c p e = let a = c.before.before.before.args in rest_ended passWords p a.left (values a.g.now) (8 - a.k) _ (sym (c.before.ended.ensures p e) ∙ c.if1.true) e
+returns c p e = let a = c.before.before.before.args in rest_ended pass_words p a.left (values a.g.now) (8 - a.k) _ (sym (c.before.ended.ensures p e) ∙ c.if1.true) e
 
 blocked-requires : tie.Need-blocked-requires
 blocked-requires c κs = search rules
@@ -29,18 +29,18 @@ add-opened-requires c κs = search rules
 
 returns-2 : tie.Need-returns-2
 returns-2 c p e = let a = c.before.before.before.before.before.before.before.before.before.before.before.args in
-    rest-high passWords p a.left (values a.g.now) (8 - a.k) _ (sym (c.before.before.before.before.before.before.before.before.before.ended.ensures p e) ∙ c.before.before.before.before.before.before.before.before.if1.false) c.before.before.before.before.before.before.before.if2.true (sym (c.before.before.before.before.before.blocked.ensures p e) ∙ c.before.before.before.before.if3.true) (sym c.before.before.before.low.ensures ∙ not-true c.before.before.before.low.result c.before.before.if4.true) (c.add-opened.ensures p e)
+    rest_high pass_words p a.left (values a.g.now) (8 - a.k) _ (sym (c.before.before.before.before.before.before.before.before.before.ended.ensures p e) ∙ c.before.before.before.before.before.before.before.before.if1.false) c.before.before.before.before.before.before.before.if2.true (sym (c.before.before.before.before.before.blocked.ensures p e) ∙ c.before.before.before.before.if3.true) (sym c.before.before.before.low.ensures ∙ not-true c.before.before.before.low.result c.before.before.if4.true) (c.add-opened.ensures p e)
 
 returns-3 : tie.Need-returns-3
 returns-3 c p e = let a = c.before.before.before.before.before.before.before.before.before.args in
-    rest-low passWords p a.left (values a.g.now) (8 - a.k) _ (sym (c.before.before.before.before.before.before.before.ended.ensures p e) ∙ c.before.before.before.before.before.before.if1.false) c.before.before.before.before.before.if2.true (sym (c.before.before.before.blocked.ensures p e) ∙ c.before.before.if3.true) (sym c.before.low.ensures ∙ not-false c.before.low.result c.if4.false) e
+    rest_low pass_words p a.left (values a.g.now) (8 - a.k) _ (sym (c.before.before.before.before.before.before.before.ended.ensures p e) ∙ c.before.before.before.before.before.before.if1.false) c.before.before.before.before.before.if2.true (sym (c.before.before.before.blocked.ensures p e) ∙ c.before.before.if3.true) (sym c.before.low.ensures ∙ not-false c.before.low.result c.if4.false) e
 
 returns-4 : tie.Need-returns-4
 returns-4 c p e = let a = c.before.before.before.before.before.before.before.args in
-    rest-unblocked passWords p a.left (values a.g.now) (8 - a.k) _ (sym (c.before.before.before.before.before.ended.ensures p e) ∙ c.before.before.before.before.if1.false) c.before.before.before.if2.true (sym (c.before.blocked.ensures p e) ∙ c.if3.false) e
+    rest_unblocked pass_words p a.left (values a.g.now) (8 - a.k) _ (sym (c.before.before.before.before.before.ended.ensures p e) ∙ c.before.before.before.before.if1.false) c.before.before.before.if2.true (sym (c.before.blocked.ensures p e) ∙ c.if3.false) e
 
 returns-5 : tie.Need-returns-5
-returns-5 c p e = let a = c.before.before.before.before.args in rest-deeper passWords p a.left (values a.g.now) (8 - a.k) _ (sym (c.before.before.ended.ensures p e) ∙ c.before.if1.false) c.if2.false e
+returns-5 c p e = let a = c.before.before.before.before.args in rest_deeper pass_words p a.left (values a.g.now) (8 - a.k) _ (sym (c.before.before.ended.ensures p e) ∙ c.before.if1.false) c.if2.false e
 
 pub rest-known-spec : {M : Type 1} → statement M
 rest-known-spec =

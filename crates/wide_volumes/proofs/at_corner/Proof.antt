@@ -9,39 +9,39 @@ use lib.IntN.{ℤ}
 use mir.Syntax.{w64}
 use mir.Val.{of_z}
 use Rattle.foundation.specs.Polynomial.{integers}
-use Rattle.definitions.specs.Jacobian.{nodesOf}
+use Rattle.definitions.specs.Jacobian.{nodes_of}
 use Rattle.definitions.specs.Coefficients.{edge}
-use Rattle.element_vectors.specs.Vectors.{HeldVector, vector-within, det-read, edge-held}
-use Rattle.wide_volumes.specs.Range.{edgeLimit, middleLimit}
-use Rattle.wide_volumes.specs.Digits.{upper, lower, corner-digit}
+use Rattle.element_vectors.specs.Vectors.{HeldVector, vector_within, det_read, edge_held}
+use Rattle.wide_volumes.specs.Range.{edge_limit, middle_limit}
+use Rattle.wide_volumes.specs.Digits.{upper, lower, corner_digit_law}
 use Rattle.wide_volumes.specs.Begun.{next}
 use Rattle.wide_volumes.proofs.at_corner.Statement.{statement}
 use Rattle.wide_volumes.proofs.at_corner.Tie as tie
 
 abbrev toward : tie.Start → ℕ → ℕ → ℤ
-toward s b = edge integers (nodesOf s.args.p.now) s.args.a b
+toward s b = edge integers (nodes_of s.args.p.now) s.args.a b
 
 -- the entry as seen after the three calls of each vector, and the vector held
 module _ (c : tie.After-edge3) where
   abbrev entry-1 : tie.Start
   entry-1 = c.before.before.before
 
-  to-b : HeldVector edgeLimit (of_z w64 c.before.before.edge.result) (of_z w64 c.before.edge2.result) (of_z w64 c.edge3.result) (toward entry-1 entry-1.args.b)
-  to-b = edge-held entry-1.pre.1.1.range edgeLimit tt (lit≤ tt) entry-1.args.a entry-1.args.b c.before.before.edge.ensures c.before.edge2.ensures c.edge3.ensures
+  to_b : HeldVector edge_limit (of_z w64 c.before.before.edge.result) (of_z w64 c.before.edge2.result) (of_z w64 c.edge3.result) (toward entry-1 entry-1.args.b)
+  to_b = edge_held entry-1.pre.1.1.range edge_limit tt (lit≤ tt) entry-1.args.a entry-1.args.b c.before.before.edge.ensures c.before.edge2.ensures c.edge3.ensures
 
 module _ (c : tie.After-edge6) where
   abbrev entry-2 : tie.Start
   entry-2 = entry-1 c.before.before.before
 
-  to-c : HeldVector middleLimit (of_z w64 c.before.before.edge4.result) (of_z w64 c.before.edge5.result) (of_z w64 c.edge6.result) (toward entry-2 entry-2.args.c)
-  to-c = edge-held entry-2.pre.1.1.range middleLimit tt (lit≤ tt) entry-2.args.a entry-2.args.c c.before.before.edge4.ensures c.before.edge5.ensures c.edge6.ensures
+  to_c : HeldVector middle_limit (of_z w64 c.before.before.edge4.result) (of_z w64 c.before.edge5.result) (of_z w64 c.edge6.result) (toward entry-2 entry-2.args.c)
+  to_c = edge_held entry-2.pre.1.1.range middle_limit tt (lit≤ tt) entry-2.args.a entry-2.args.c c.before.before.edge4.ensures c.before.edge5.ensures c.edge6.ensures
 
 module _ (c : tie.After-edge9) where
   abbrev entry-3 : tie.Start
   entry-3 = entry-2 c.before.before.before
 
-  to-d : HeldVector middleLimit (of_z w64 c.before.before.edge7.result) (of_z w64 c.before.edge8.result) (of_z w64 c.edge9.result) (toward entry-3 entry-3.args.d)
-  to-d = edge-held entry-3.pre.1.1.range middleLimit tt (lit≤ tt) entry-3.args.a entry-3.args.d c.before.before.edge7.ensures c.before.edge8.ensures c.edge9.ensures
+  to_d : HeldVector middle_limit (of_z w64 c.before.before.edge7.result) (of_z w64 c.before.edge8.result) (of_z w64 c.edge9.result) (toward entry-3 entry-3.args.d)
+  to_d = edge_held entry-3.pre.1.1.range middle_limit tt (lit≤ tt) entry-3.args.a entry-3.args.d c.before.before.edge7.ensures c.before.edge8.ensures c.edge9.ensures
 
 place_inside : (c : tie.After-edge9) → (entry-3 c).args.k < 20
 place_inside c = omega (arith, (entry-3 c).requires.1.0.0)
@@ -75,13 +75,13 @@ edge-requires-9 c κs = search rules
 
 put-digits-requires : tie.Need-put-digits-requires
 put-digits-requires c κs = let w = c.before.before in let v = w.before.before.before in
-    (vector-within (to-b v.before.before.before), (vector-within (to-c v), (vector-within (to-d w), place_inside w)))
+    (vector_within (to_b v.before.before.before), (vector_within (to_c v), (vector_within (to_d w), place_inside w)))
 
 returns : tie.Need-returns
-returns c = let w = c.before.before.before in let v = w.before.before.before in let u = v.before.before.before in let s = entry-3 w in let x = nodesOf s.args.p.now in
+returns c = let w = c.before.before.before in let v = w.before.before.before in let u = v.before.before.before in let s = entry-3 w in let x = nodes_of s.args.p.now in
     next s.pre.1.1 (place_inside w)
-    (c.put-digits.ensures.0 ∙ ap (set s.args.high.now s.args.k) (det-read upper (to-b u) (to-c v) (to-d w) refl ∙ corner-digit upper x s.pre.1.0.0 s.pre.1.0.1))
-    (c.put-digits.ensures.1 ∙ ap (set s.args.low.now s.args.k) (det-read lower (to-b u) (to-c v) (to-d w) refl ∙ corner-digit lower x s.pre.1.0.0 s.pre.1.0.1))
+    (c.put-digits.ensures.0 ∙ ap (set s.args.high.now s.args.k) (det_read upper (to_b u) (to_c v) (to_d w) refl ∙ corner_digit_law upper x s.pre.1.0.0 s.pre.1.0.1))
+    (c.put-digits.ensures.1 ∙ ap (set s.args.low.now s.args.k) (det_read lower (to_b u) (to_c v) (to_d w) refl ∙ corner_digit_law lower x s.pre.1.0.0 s.pre.1.0.1))
 
 pub at-corner-spec : {M : Type 1} → statement M
 at-corner-spec =

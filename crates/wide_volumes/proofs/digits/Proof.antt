@@ -1,6 +1,6 @@
 -- The corners' digits, and the edges' behind them.
 use borrow.Author.Rules.{rules}
-use Rattle.wide_volumes.specs.Begun.{begin, all-uppers, all-lowers}
+use Rattle.wide_volumes.specs.Begun.{begin, all_uppers, all_lowers}
 use Rattle.wide_volumes.proofs.digits.Statement.{statement}
 use Rattle.wide_volumes.proofs.digits.Tie as tie
 
@@ -11,7 +11,7 @@ put-edges-requires : tie.Need-put-edges-requires
 put-edges-requires c κs = search rules
 
 returns : tie.Need-returns
-returns c = (all-uppers c.put-edges.ensures, all-lowers c.put-edges.ensures)
+returns c = (all_uppers c.put-edges.ensures, all_lowers c.put-edges.ensures)
 
 pub digits-spec : {M : Type 1} → statement M
 digits-spec = tie.close (tie.spec put-corners-requires put-edges-requires returns)

@@ -4,7 +4,7 @@ use native.Mathlib.Omega.{arith}
 use borrow.Author.Rules.{rules}
 use lib.Dec.{ltb}
 use Rattle.definitions.specs.Limits.{base}
-use Rattle.definitions.specs.Address.{childAddress}
+use Rattle.definitions.specs.Address.{child_address}
 use Rattle.cell_address.specs.Meaning.{address_of}
 use Rattle.cell_address.proofs.Laws.{both, Bounded, bounded}
 use Rattle.cell_address.proofs.Address.child.Statement.{statement}
@@ -39,13 +39,13 @@ offset-requires : tie.Need-offset-requires
 offset-requires c κs = omega (arith, bounds c.before.before.before.before)
 
 returns : tie.Need-returns
-unfolding childAddress
+unfolding child_address
 returns c =
     let made = c.before.before.before.before.before in
     rw (← made.before.before.before.is-cell.ensures, ← made.before.is-corner.ensures, made.if1.true) (cc c.offset.ensures)
 
 returns-2 : tie.Need-returns-2
-unfolding childAddress
+unfolding child_address
 returns-2 c = rw (← c.before.before.before.is-cell.ensures, ← c.before.is-corner.ensures, c.if1.false)
 
 pub child-spec : {M : Type 1} → statement M

@@ -3,7 +3,7 @@ use mathlib.Core.Path.{sym, ◌∙◌}
 use native.Mathlib.Omega.{arith}
 use borrow.Author.Rules.{rules}
 use Rattle.definitions.specs.Limits.{base}
-use Rattle.definitions.specs.Address.{cornerAddress}
+use Rattle.definitions.specs.Address.{corner_address}
 use Rattle.cell_address.specs.Meaning.{address_of}
 use Rattle.cell_address.proofs.Laws.{both, Bounded, bounded}
 use Rattle.cell_address.proofs.Address.corner.Statement.{statement}
@@ -25,13 +25,13 @@ offset-requires : tie.Need-offset-requires
 offset-requires c κs = omega (arith, bounds c)
 
 returns : tie.Need-returns
-unfolding cornerAddress
+unfolding corner_address
 returns c =
     let made = c.before in
     rw (← made.before.before.is-cell.ensures, ← made.before.is-corner.ensures, made.if1.true) (cc c.offset.ensures)
 
 returns-2 : tie.Need-returns-2
-unfolding cornerAddress
+unfolding corner_address
 returns-2 c = rw (← c.before.before.is-cell.ensures, ← c.before.is-corner.ensures, c.if1.false)
 
 pub corner-spec : {M : Type 1} → statement M

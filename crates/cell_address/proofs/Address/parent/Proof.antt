@@ -1,7 +1,7 @@
 -- `Address::parent` meets its contract. Assumes nothing.
 use borrow.Author.Rules.{rules}
 use borrow.Author.Tests.{leb-true}
-use Rattle.definitions.specs.Address.{parentAddress}
+use Rattle.definitions.specs.Address.{parent_address}
 use Rattle.cell_address.proofs.Laws.{both}
 use Rattle.cell_address.proofs.Address.parent.Statement.{statement}
 use Rattle.cell_address.proofs.Address.parent.Tie as tie
@@ -15,13 +15,13 @@ sub-t6 c =
     leb-true _ _ (both made.before.before.is-cell.result _ made.if1.true).1
 
 returns : tie.Need-returns
-unfolding parentAddress
+unfolding parent_address
 returns c =
     let made = c.before.before.before.before in
     rw (← made.before.before.is-cell.ensures, made.if1.true)
 
 returns-2 : tie.Need-returns-2
-unfolding parentAddress
+unfolding parent_address
 returns-2 c = rw (← c.before.before.is-cell.ensures, c.if1.false)
 
 pub parent-spec : {M : Type 1} → statement M

@@ -1,14 +1,14 @@
 -- `at_most_zero` meets its contract: by the sign, then by the high word, then by the low one. Assumes nothing.
 use Rattle.std.proofs.Common.{sym, arith}
-use Rattle.wrapping_theory.specs.Order.{negative-low, positive-high, zero_high}
+use Rattle.wrapping_theory.specs.Order.{negative_low, positive_high, zero_high}
 use Rattle.wide_number.proofs.Wide.at_most_zero.Statement.{statement}
 use Rattle.wide_number.proofs.Wide.at_most_zero.Tie as tie
 
 returns : tie.Need-returns
-returns c = let x = c.before.before.args.self in sym (negative-low x.low x.high (record { low-word = omega arith; high-word = omega arith }) (omega arith))
+returns c = let x = c.before.before.args.self in sym (negative_low x.low x.high (record { low_word_fits = omega arith; high_word_fits = omega arith }) (omega arith))
 
 returns-2 : tie.Need-returns-2
-returns-2 c = let x = c.before.before.before.before.args.self in sym (positive-high x.low x.high (omega arith) (omega arith))
+returns-2 c = let x = c.before.before.before.before.args.self in sym (positive_high x.low x.high (omega arith) (omega arith))
 
 returns-3 : tie.Need-returns-3
 returns-3 c = let x = c.before.before.before.before.before.args.self in sym (zero_high x.low x.high (omega arith))

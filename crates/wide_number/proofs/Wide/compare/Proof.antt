@@ -2,7 +2,7 @@
 use Rattle.std.proofs.Common.{◌≡◌, Bool, true, false, sym, ◌∙◌, ap₂, arith, rules, le-ltb, lt-ltb}
 use lib.Signed.{lt_z}
 use Rattle.wrapping_theory.specs.Words.{AreWords}
-use Rattle.wrapping_theory.specs.Order.{less-high, more-high, less-low}
+use Rattle.wrapping_theory.specs.Order.{less_high, more_high, less_low}
 use Rattle.wide_number.specs.Meaning.{value_of, order_of}
 use Rattle.wide_number.specs.declared.Order.{Order}
 use Rattle.wide_number.specs.declared.Order.TheVariants.{Less, Equal, Greater}
@@ -15,10 +15,10 @@ order a b = elim a [ true ↦ Less | false ↦ elim b [ true ↦ Greater | false
 
 module _ (s : tie.Start) where
   mine : AreWords s.args.self.low s.args.self.high
-  mine = record { low-word = omega arith; high-word = omega arith }
+  mine = record { low_word_fits = omega arith; high_word_fits = omega arith }
 
   other : AreWords s.args.y.low s.args.y.high
-  other = record { low-word = omega arith; high-word = omega arith }
+  other = record { low_word_fits = omega arith; high_word_fits = omega arith }
 
   told : (a b : Bool) → lt_z (value_of s.args.self) (value_of s.args.y) ≡ a → lt_z (value_of s.args.y) (value_of s.args.self) ≡ b → order a b ≡ order_of (value_of s.args.self) (value_of s.args.y)
   unfolding order_of
@@ -32,23 +32,23 @@ lifted-requires-2 c κs = search rules
 
 returns : tie.Need-returns
 returns c = let s = c.before.before.before in let x = s.args.self in let y = s.args.y in
-    told s true false (less-high x.low x.high y.low y.high (mine s) (other s) (omega arith)) (more-high y.low y.high x.low x.high (other s) (mine s) (omega arith))
+    told s true false (less_high x.low x.high y.low y.high (mine s) (other s) (omega arith)) (more_high y.low y.high x.low x.high (other s) (mine s) (omega arith))
 
 returns-2 : tie.Need-returns-2
 returns-2 c = let s = c.before.before.before.before in let x = s.args.self in let y = s.args.y in
-    told s false true (more-high x.low x.high y.low y.high (mine s) (other s) (omega arith)) (less-high y.low y.high x.low x.high (other s) (mine s) (omega arith))
+    told s false true (more_high x.low x.high y.low y.high (mine s) (other s) (omega arith)) (less_high y.low y.high x.low x.high (other s) (mine s) (omega arith))
 
 returns-3 : tie.Need-returns-3
 returns-3 c = let s = c.before.before.before.before.before.before.before in let x = s.args.self in let y = s.args.y in
-    told s true false (less-low x.low x.high y.low y.high (mine s) (other s) (omega arith) ∙ lt-ltb x.low y.low (omega arith)) (less-low y.low y.high x.low x.high (other s) (mine s) (omega arith) ∙ le-ltb y.low x.low (omega arith))
+    told s true false (less_low x.low x.high y.low y.high (mine s) (other s) (omega arith) ∙ lt-ltb x.low y.low (omega arith)) (less_low y.low y.high x.low x.high (other s) (mine s) (omega arith) ∙ le-ltb y.low x.low (omega arith))
 
 returns-4 : tie.Need-returns-4
 returns-4 c = let s = c.before.before.before.before.before.before.before.before.before.before in let x = s.args.self in let y = s.args.y in
-    told s false true (less-low x.low x.high y.low y.high (mine s) (other s) (omega arith) ∙ le-ltb x.low y.low (omega arith)) (less-low y.low y.high x.low x.high (other s) (mine s) (omega arith) ∙ lt-ltb y.low x.low (omega arith))
+    told s false true (less_low x.low x.high y.low y.high (mine s) (other s) (omega arith) ∙ le-ltb x.low y.low (omega arith)) (less_low y.low y.high x.low x.high (other s) (mine s) (omega arith) ∙ lt-ltb y.low x.low (omega arith))
 
 returns-5 : tie.Need-returns-5
 returns-5 c = let s = c.before.before.before.before.before.before.before.before.before.before in let x = s.args.self in let y = s.args.y in
-    told s false false (less-low x.low x.high y.low y.high (mine s) (other s) (omega arith) ∙ le-ltb x.low y.low (omega arith)) (less-low y.low y.high x.low x.high (other s) (mine s) (omega arith) ∙ le-ltb y.low x.low (omega arith))
+    told s false false (less_low x.low x.high y.low y.high (mine s) (other s) (omega arith) ∙ le-ltb x.low y.low (omega arith)) (less_low y.low y.high x.low x.high (other s) (mine s) (omega arith) ∙ le-ltb y.low x.low (omega arith))
 
 pub compare-spec : {M : Type 1} → statement M
 compare-spec =

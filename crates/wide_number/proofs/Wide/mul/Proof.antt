@@ -1,7 +1,7 @@
 -- `mul` meets its contract: the product of the low words whole, of the middle ones the low words. Assumes nothing.
 use Rattle.std.proofs.Common.{◌+◌, ◌/◌, ◌^◌, arith, rules}
 use Rattle.wrapping_theory.specs.Columns.{crossed}
-use Rattle.wrapping_theory.specs.Words.{product-wrapped}
+use Rattle.wrapping_theory.specs.Words.{product_wrapped}
 use Rattle.wide_number.proofs.Wide.mul.Statement.{statement}
 use Rattle.wide_number.proofs.Wide.mul.Tie as tie
 
@@ -25,7 +25,7 @@ returns c = let s = c.before.before.before.before.before in let x = s.args.self 
     let lows = c.before.before.before.before.whole-product in
     let left = c.before.before.before.whole-product2 in
     let right = c.before.before.whole-product3 in
-    product-wrapped {a = x.low} {b = x.high} {c = y.low} {d = y.high} (record { low-word = omega arith; high-word = omega arith }) (record { low-word = omega arith; high-word = omega arith }) (record { low-word = lows.type-inv.1.1.0.1; high-word = omega (arith, c.wrapping-add-u642.ensures) })
+    product_wrapped {a = x.low} {b = x.high} {c = y.low} {d = y.high} (record { low_word_fits = omega arith; high_word_fits = omega arith }) (record { low_word_fits = omega arith; high_word_fits = omega arith }) (record { low_word_fits = lows.type-inv.1.1.0.1; high_word_fits = omega (arith, c.wrapping-add-u642.ensures) })
     (crossed (2 ^ 64) x.low y.low x.high y.high lows.result.low lows.result.high left.result.high right.result.high left.result.low right.result.low c.wrapping-add-u642.result
     ((lows.result.high + (left.result.low + right.result.low)) / 2 ^ 64)
     lows.type-inv.1.1.0.1 (omega (arith, c.wrapping-add-u642.ensures)) lows.ensures left.ensures right.ensures (omega (arith, c.before.wrapping-add-u64.ensures, c.wrapping-add-u642.ensures)))

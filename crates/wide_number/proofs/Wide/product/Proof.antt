@@ -2,7 +2,7 @@
 use Rattle.std.proofs.Common.{◌*ℤ◌, ap, ◌∙◌, ap₂, to_z-of_z, rules}
 use mir.Syntax.{w128}
 use Rattle.wrapping_theory.specs.Wrapping.{exact}
-use Rattle.wrapping_theory.specs.Single.{product-fits}
+use Rattle.wrapping_theory.specs.Single.{product_fits}
 use Rattle.wide_number.specs.Meaning.{modulo}
 use Rattle.wide_number.proofs.Wide.product.Statement.{statement}
 use Rattle.wide_number.proofs.Wide.product.Tie as tie
@@ -18,7 +18,7 @@ mul-requires c κs = search rules
 
 returns : tie.Need-returns
 returns c = let s = c.before.before.before in
-    c.mul.ensures ∙ ap modulo (ap₂ ◌*ℤ◌ (c.before.before.from-i64.ensures ∙ to_z-of_z s.ranges.x) (c.before.from-i642.ensures ∙ to_z-of_z s.ranges.y)) ∙ exact w128 (product-fits s.args.x s.args.y s.ranges.x s.ranges.y)
+    c.mul.ensures ∙ ap modulo (ap₂ ◌*ℤ◌ (c.before.before.from-i64.ensures ∙ to_z-of_z s.ranges.x) (c.before.from-i642.ensures ∙ to_z-of_z s.ranges.y)) ∙ exact w128 (product_fits s.args.x s.args.y s.ranges.x s.ranges.y)
 
 pub product-spec : {M : Type 1} → statement M
 product-spec = tie.close (tie.spec from-i64-requires from-i64-requires-2 mul-requires returns)

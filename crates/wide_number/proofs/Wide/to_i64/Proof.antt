@@ -1,43 +1,43 @@
 -- `to_i64` meets its contract: one word holds the number where the sign fills the high word. Assumes nothing.
 use Rattle.std.proofs.Common.{◌≡◌, ℕ, ◌^◌, ◌<◌, Bool, false, ℤ, sym, ap, ◌∙◌, arith, to_z-of_z, w64, SFits, to_z, of_z, rules}
 use mir.ValLaws.{to_z-Fits}
-use Rattle.definitions.specs.TwoWords.{value, inOneWord}
-use Rattle.wrapping_theory.specs.Single.{filled-plus, filled-minus, held, above-plus, below-minus, neither}
-use Rattle.wide_number.specs.Meaning.{chosen, singleOf}
+use Rattle.definitions.specs.TwoWords.{value, in_one_word}
+use Rattle.wrapping_theory.specs.Single.{filled_plus, filled_minus, held, above_plus, below_minus, neither}
+use Rattle.wide_number.specs.Meaning.{chosen, single_of}
 use Rattle.wide_number.specs.declared.Single.TheVariants.{Number, TooLong}
 use Rattle.wide_number.proofs.Wide.to_i64.Statement.{statement}
 use Rattle.wide_number.proofs.Wide.to_i64.Tie as tie
 
 -- a number that one word holds, with that word's signed number
-held-as : (low high : ℕ) {r : ℤ} → low < 2 ^ 64 → value low high ≡ to_z w64 low → SFits w64 r → r ≡ to_z w64 low → Number (to_z w64 (of_z w64 r)) ≡ singleOf (value low high)
-unfolding singleOf
-held-as low high {r} l e f p = let g : SFits w64 (to_z w64 low) = to_z-Fits w64 low (record { fits = l }) in
-    ap Number (to_z-of_z f ∙ p) ∙ sym (ap singleOf e ∙ ap (λ (b : Bool). chosen b (to_z w64 low)) (held (to_z w64 low) g))
+held_as : (low high : ℕ) {r : ℤ} → low < 2 ^ 64 → value low high ≡ to_z w64 low → SFits w64 r → r ≡ to_z w64 low → Number (to_z w64 (of_z w64 r)) ≡ single_of (value low high)
+unfolding single_of
+held_as low high {r} l e f p = let g : SFits w64 (to_z w64 low) = to_z-Fits w64 low (record { fits = l }) in
+    ap Number (to_z-of_z f ∙ p) ∙ sym (ap single_of e ∙ ap (λ (b : Bool). chosen b (to_z w64 low)) (held (to_z w64 low) g))
 
-too_long : (z : ℤ) → inOneWord z ≡ false → TooLong ≡ singleOf z
-unfolding singleOf
+too_long : (z : ℤ) → in_one_word z ≡ false → TooLong ≡ single_of z
+unfolding single_of
 too_long z e = sym (ap (λ (b : Bool). chosen b z) e)
 
 signed-requires : tie.Need-signed-requires
 signed-requires c κs = search rules
 
 returns : tie.Need-returns
-returns c = let x = c.before.before.before.before.before.args.self in let e : x.high ≡ 0 = omega arith in held-as x.low x.high (omega arith) (ap (value x.low) e ∙ filled-plus x.low (omega arith)) (record { sfits = c.signed.type-inv }) c.signed.ensures
+returns c = let x = c.before.before.before.before.before.args.self in let e : x.high ≡ 0 = omega arith in held_as x.low x.high (omega arith) (ap (value x.low) e ∙ filled_plus x.low (omega arith)) (record { sfits = c.signed.type-inv }) c.signed.ensures
 
 returns-2 : tie.Need-returns-2
-returns-2 c = let x = c.before.before.before.before.args.self in let e : x.high ≡ 0 = omega arith in too_long (value x.low x.high) (ap (λ (h : ℕ). inOneWord (value x.low h)) e ∙ above-plus x.low (omega arith))
+returns-2 c = let x = c.before.before.before.before.args.self in let e : x.high ≡ 0 = omega arith in too_long (value x.low x.high) (ap (λ (h : ℕ). in_one_word (value x.low h)) e ∙ above_plus x.low (omega arith))
 
 signed-requires-2 : tie.Need-signed-requires-2
 signed-requires-2 c κs = search rules
 
 returns-3 : tie.Need-returns-3
-returns-3 c = let x = c.before.before.before.before.before.before.before.args.self in let e : x.high ≡ 18446744073709551615 = omega arith in held-as x.low x.high (omega arith) (ap (value x.low) e ∙ filled-minus x.low (omega arith) (omega arith)) (record { sfits = c.signed2.type-inv }) c.signed2.ensures
+returns-3 c = let x = c.before.before.before.before.before.before.before.args.self in let e : x.high ≡ 18446744073709551615 = omega arith in held_as x.low x.high (omega arith) (ap (value x.low) e ∙ filled_minus x.low (omega arith) (omega arith)) (record { sfits = c.signed2.type-inv }) c.signed2.ensures
 
 returns-4 : tie.Need-returns-4
-returns-4 c = let x = c.before.before.before.before.before.before.args.self in let e : x.high ≡ 18446744073709551615 = omega arith in too_long (value x.low x.high) (ap (λ (h : ℕ). inOneWord (value x.low h)) e ∙ below-minus x.low (omega arith))
+returns-4 c = let x = c.before.before.before.before.before.before.args.self in let e : x.high ≡ 18446744073709551615 = omega arith in too_long (value x.low x.high) (ap (λ (h : ℕ). in_one_word (value x.low h)) e ∙ below_minus x.low (omega arith))
 
 returns-5 : tie.Need-returns-5
-returns-5 c = let x = c.before.before.before.before.args.self in too_long (value x.low x.high) (neither x.low x.high (record { low-word = omega arith; high-word = omega arith }) (λ e. absurd (omega arith)) (λ e. absurd (omega arith)))
+returns-5 c = let x = c.before.before.before.before.args.self in too_long (value x.low x.high) (neither x.low x.high (record { low_word_fits = omega arith; high_word_fits = omega arith }) (λ e. absurd (omega arith)) (λ e. absurd (omega arith)))
 
 pub to-i64-spec : {M : Type 1} → statement M
 to-i64-spec =

@@ -1,7 +1,7 @@
 -- `twice` meets its contract: both words shifted by one bit. Assumes nothing.
 use Rattle.std.proofs.Common.{◌^◌, ◌<◌, refl, arith}
 use Rattle.wrapping_theory.specs.Columns.{shift_fits, shifted}
-use Rattle.wrapping_theory.specs.Words.{multiple-wrapped}
+use Rattle.wrapping_theory.specs.Words.{multiple_wrapped}
 use Rattle.wide_number.proofs.Wide.twice.Statement.{statement}
 use Rattle.wide_number.proofs.Wide.twice.Tie as tie
 
@@ -10,7 +10,7 @@ add-t5 c = let x = c.before.before.before.args.self in record { fits = shift_fit
 
 returns : tie.Need-returns
 returns c = let x = c.before.before.before.args.self in let l : x.low < 2 ^ 64 = omega arith in
-    multiple-wrapped 2 {a = x.low} {b = x.high} (record { low-word = l; high-word = omega arith }) (record { low-word = omega arith; high-word = shift_fits (2 ^ 64) 2 (2 ^ 63) refl (omega arith) x.low x.high (omega arith) l })
+    multiple_wrapped 2 {a = x.low} {b = x.high} (record { low_word_fits = l; high_word_fits = omega arith }) (record { low_word_fits = omega arith; high_word_fits = shift_fits (2 ^ 64) 2 (2 ^ 63) refl (omega arith) x.low x.high (omega arith) l })
     (shifted (2 ^ 64) 2 (2 ^ 63) refl (omega arith) x.low x.high (omega arith) l)
 
 pub twice_spec : {M : Type 1} → statement M
