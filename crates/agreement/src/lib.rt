@@ -2,6 +2,8 @@
 // mesh, report space and depth, and for all eight points, the two give the same.
 //   inspect_twice  both inspections of a mesh, each into report space of its own
 //   bounds_twice   both bounds of eight points, from each
+#![tactic(auto)]
+
 ghost use Rattle.std.specs.Prelude.{◌≡◌, length};
 ghost use Rattle.definitions.specs.Limits.{base};
 ghost use Rattle.definitions.specs.Mesh.{inspection, report_after, bounds_of};

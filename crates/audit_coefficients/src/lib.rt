@@ -1,6 +1,8 @@
 // The 27 Bézier coefficients of eight points whose coordinates go to 1,048,576, in numbers of two words. An inner crate, for
 // `audit_points`: a second way to what `narrow_coefficients` and `wide_coefficients` give. It has its own volumes, from `audit_volumes`, and works
 // the rows from the table in full, modulo 2^128. A coefficient is in range, so nothing is lost.
+#![tactic(auto)]
+
 ghost use Rattle.std.specs.Prelude.{◌≡◌, ◌<◌, length, ◌+ℤ◌, ◌*ℤ◌};
 ghost use Rattle.foundation.specs.Lists.{tabulate};
 ghost use Rattle.definitions.specs.Limits.{base};

@@ -1,5 +1,7 @@
 // One cut of a cell's 27 coefficients across a direction, both halves at once, with numbers of two words. An inner crate, for `audit_cycle`. It
 // goes row by row: the nine rows of a direction are found by their places, and each is cut by de Casteljau's rule, kept four times larger.
+#![tactic(auto)]
+
 ghost use Rattle.std.specs.Prelude.{◌≡◌, ◌+◌, ◌*◌, ◌<◌, length};
 ghost use Rattle.definitions.specs.Coefficients.{numbers as numbersByPlace};
 ghost use Rattle.definitions.specs.Subdivision.{halve};

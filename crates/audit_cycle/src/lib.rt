@@ -1,6 +1,8 @@
 // The auditor's walk over an element's cells, one cut at a time: first across ξ, each half across η, each quarter across ζ, then the next level, with the
 // cuts left counted down. An inner crate, for `audit_points`, which meets what each `requires` asks. The halves of a cut are handed on together, so
 // that ζ comes to the eight children in path order. Whole cells alone are noted: the cuts left are 0 only in ξ.
+#![tactic(auto)]
+
 ghost use Rattle.std.specs.Prelude.{◌≡◌, List, ◌+◌, ◌/◌, ◌%◌, ◌^◌, ◌<◌, ℤ};
 ghost use Rattle.definitions.specs.Subdivision.{children};
 ghost use Rattle.search_theory.specs.Meaning.{cell_of, Room};

@@ -1,5 +1,7 @@
 // What the auditor's walk notes of an element's cells, with numbers of two words: a search what it found and how many cells it opened, a survey the
 // least coefficient and the least corner. An inner crate, for `audit_cycle` and `audit_points`, which meet what each `requires` asks.
+#![tactic(auto)]
+
 ghost use Rattle.std.specs.Prelude.{◌≡◌, ℕ, ◌+◌, ◌-◌, ◌^◌, ◌<◌, ◌≤◌, take, pos};
 ghost use Rattle.foundation.specs.Least.{lesser as lesserOf, least_from};
 ghost use Rattle.definitions.specs.Record.{words as words_of};

@@ -1,5 +1,7 @@
 // The auditor's record and both bounds of eight points within the limits `base`. An inner crate, for `audit_records` and `auditor`, which meet what each
 // `requires` asks.
+#![tactic(auto)]
+
 ghost use Rattle.std.specs.Prelude.{◌≡◌, List, ◌≤◌, ℤ};
 ghost use Rattle.definitions.specs.Limits.{base};
 ghost use Rattle.definitions.specs.Coefficients.{coefficients};

@@ -1,5 +1,7 @@
 // The auditor's records of a mesh's elements, one after the other into the report space, and how many there are of each kind. An inner crate: `auditor`
 // meets what each `requires` asks. It shares with the first inspector which elements are refused, the report space and the counts.
+#![tactic(auto)]
+
 ghost use Rattle.std.specs.Prelude.{◌≡◌, ◌*◌, ◌/◌, ◌%◌, ◌≤◌, length};
 ghost use Rattle.definitions.specs.Limits.{base, record_words};
 ghost use Rattle.definitions.specs.Mesh.{element_record, records, report as reportOf, counts_of};

@@ -1,6 +1,8 @@
 // The twenty volumes of eight points whose coordinates go to 1,048,576, in numbers of two words: J at the corners and four times J at the edge
 // middles. An inner crate, for `audit_coefficients`: a second way to what `narrow_volumes` and `wide_volumes` give, which shares with them only
 // the vectors between nodes. The volumes are numbers 0 to 19 of a lent array of 27; nothing is said of the other seven.
+#![tactic(auto)]
+
 ghost use Rattle.std.specs.Prelude.{◌≡◌, [], ◌∷◌, ◌+◌, ◌-◌, ◌<◌, ◌≤◌, get_or, length, take, ◌-ℤ◌, ◌*ℤ◌};
 ghost use Rattle.foundation.specs.Polynomial.{integers};
 ghost use Rattle.foundation.specs.Words.{Within};

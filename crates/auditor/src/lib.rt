@@ -5,6 +5,8 @@
 // It cuts one direction at a time, with numbers of two words from the differences of coordinates on, and looks at every cell that document 01 counts as opened,
 // for the bounds at every cell of the level. Its volumes, coefficients, cut, search, bounds and the loop over a mesh's elements are its own (the crates `audit_*`); docs/TRUST.md has
 // the whole list of what it shares with the first.
+#![tactic(auto)]
+
 ghost use Rattle.std.specs.Prelude.{◌≡◌, length};
 ghost use Rattle.definitions.specs.Limits.{base};
 ghost use Rattle.definitions.specs.Mesh.{inspection, report_after, bounds_of};

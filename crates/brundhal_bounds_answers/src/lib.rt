@@ -1,5 +1,7 @@
 // The answers of the bounds service as plain numbers for callers in C and Rust. An inner crate: `brundhal` exports the services.
 // Every contract is an equation with `specs/Meaning.antt`: the fields of an answer are the numbers of the definition's.
+#![tactic(auto)]
+
 ghost use Rattle.std.specs.Prelude.{◌≡◌, [], ◌∷◌};
 ghost use Rattle.inspection_answers.specs.Meaning.{bounds_held};
 ghost use Rattle.brundhal_bounds_answers.specs.Meaning.{bounds_numbers, bounds_fields};

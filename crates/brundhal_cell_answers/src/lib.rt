@@ -1,5 +1,7 @@
 // Cell addresses and their moves as plain numbers for callers in C and Rust. An inner crate: `brundhal` exports the services. Every contract
 // is an equation with `specs/Meaning.antt`: the fields of an answer are the numbers of the definition's.
+#![tactic(auto)]
+
 ghost use Rattle.std.specs.Prelude.{◌≡◌};
 ghost use Rattle.cell_address.specs.Meaning.{address_of, move_of};
 ghost use Rattle.brundhal_cell_answers.specs.Meaning.{move_numbers, move_fields, address_held};

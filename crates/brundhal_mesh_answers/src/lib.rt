@@ -1,5 +1,7 @@
 // The answers of inspections and stamps as plain numbers for callers in C and Rust, and what their plain numbers stand for. An
 // inner crate: `brundhal` exports the services. Every contract is an equation with `specs/Meaning.antt`: the fields of an answer are the numbers of the definition's.
+#![tactic(auto)]
+
 ghost use Rattle.std.specs.Prelude.{◌≡◌};
 ghost use Rattle.inspection_counts.specs.Meaning.{stamp_held};
 ghost use Rattle.inspection_answers.specs.Meaning.{inspection_held};

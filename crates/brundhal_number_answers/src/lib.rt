@@ -1,5 +1,7 @@
 // Numbers of two words and the answers about them as plain numbers for callers in C and Rust: the services of `wide_number`. An inner crate: `brundhal`
 // exports them. Every contract is an equation with `specs/Meaning.antt`: the fields of an answer are the numbers of the definition's.
+#![tactic(auto)]
+
 ghost use Rattle.std.specs.Prelude.{◌≡◌, pos, ◌+ℤ◌, ◌-ℤ◌, ◌*ℤ◌};
 ghost use Rattle.std.specs.Int.Signed.{le_z};
 ghost use Rattle.wide_number.specs.Meaning.{value_of, single_of, order_of};

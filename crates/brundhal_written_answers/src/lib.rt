@@ -1,5 +1,7 @@
 // The answers of writing as plain numbers for callers in C and Rust. An inner crate: `brundhal` exports the services.
 // Every contract is an equation with `specs/Meaning.antt`: the fields of an answer are the numbers of the definition's.
+#![tactic(auto)]
+
 ghost use Rattle.std.specs.Prelude.{◌≡◌};
 ghost use Rattle.lot_format.specs.Writing.{unwritable_number};
 ghost use Rattle.lot_writer.specs.Meaning.{unwritable_held, written_held};

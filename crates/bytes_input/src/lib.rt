@@ -1,5 +1,7 @@
 // The numbers that stand in our files, low byte first. An inner crate: its callers meet what each `requires` asks.
 // Every answer is an equation with `Numbers` of the crate `lot_format`.
+#![tactic(auto)]
+
 ghost use Rattle.std.specs.Prelude.{◌≡◌, ◌+◌, ◌≤◌, ◌<◌, length, take, drop};
 ghost use Rattle.lot_format.specs.Numbers.{number, signed};
 

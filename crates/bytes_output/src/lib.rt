@@ -1,5 +1,7 @@
 // Bytes laid over lent space from a place on; each function returns the place behind them. An inner crate: its callers see that there is
 // room. Numbers stand low byte first, as `Numbers` of the crate `lot_format` has it.
+#![tactic(auto)]
+
 ghost use Rattle.std.specs.Prelude.{◌≡◌, [], ◌∷◌, ◌+◌, ◌%◌, ◌≤◌, ◌<◌, length};
 ghost use Rattle.lot_format.specs.Numbers.{number_bytes};
 ghost use Rattle.bytes_output.specs.Behind.{Laid};

@@ -3,6 +3,8 @@
 // of any level). The crate offers `Address` with the moves `child`, `corner` and `parent`. Each takes the address by value and hands back
 // the moved one, or the same one where the move can't be made. The moves ask nothing of the caller: any address and any number is
 // answered, as `child_address`, `corner_address` and `parent_address` of the definitions say.
+#![tactic(auto)]
+
 ghost use Rattle.std.specs.Prelude.{◌≡◌, ◌^◌, ◌<◌, ◌≤◌};
 ghost use Rattle.definitions.specs.Limits.{base};
 ghost use Rattle.definitions.specs.Address.{is_cell, child_address, corner_address, parent_address};

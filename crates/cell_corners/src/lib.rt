@@ -1,5 +1,7 @@
 // How corners and children are numbered: which numbers they have, and on which side of a cell each one lies. The functions ask nothing of
 // the caller, and answer as `is_corner` and `side` of the definitions say.
+#![tactic(auto)]
+
 ghost use Rattle.std.specs.Prelude.{◌≡◌, ◌≤◌};
 ghost use Rattle.definitions.specs.Jacobian.{side as side_of};
 ghost use Rattle.definitions.specs.Address.{is_corner};

@@ -1,5 +1,7 @@
 // The 27 rows of the table against twenty volumes, worked in numbers of one word. An inner crate, for the crates of coefficients: volumes in
 // one word are taken as they are, longer ones by their digits, each digit for itself, since a row is linear.
+#![tactic(auto)]
+
 ghost use Rattle.std.specs.Prelude.{◌≡◌, ◌<◌, ◌≤◌};
 ghost use Rattle.foundation.specs.Lists.{tabulate};
 ghost use Rattle.foundation.specs.Polynomial.{integers};

@@ -1,1 +1,2 @@
 // The definitions that every promise cites: specs/, in the order of the scope document. No code.
+#![tactic(auto)]

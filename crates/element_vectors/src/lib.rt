@@ -1,5 +1,7 @@
 // The vectors between an element's nodes, coordinate by coordinate, and the determinant of three vectors. An inner crate, for the crates of
 // volumes. Nodes go by their numbers, 1 to 8; coordinates may be any numbers of 32 bits.
+#![tactic(auto)]
+
 ghost use Rattle.std.specs.Prelude.{◌≡◌, [], ◌∷◌, ◌+◌, ◌-◌, ◌<◌, ◌≤◌, nat_abs};
 ghost use Rattle.foundation.specs.Polynomial.{integers};
 ghost use Rattle.definitions.specs.Jacobian.{nodes_of, det};

@@ -1,1 +1,2 @@
 // The Bézier expansion of the Jacobian determinant; theorems only, see specs/.
+#![tactic(auto)]

@@ -22,7 +22,7 @@ answered {z = z} n e h t = subst (λ (y : ℤ). Rep (of_z w64 y) z n) (sym e) (l
 
 -- one whose range is known is read back whole
 pub read_back : {r z : ℤ} → mag r < signed_limit → r ≡ z → to_z w64 (of_z w64 r) ≡ z
-read_back h e = to_z-of_z (record { sfits = h }) ∙ e
+read_back h e = to_z-of_z {w = w64} (record { sfits = h }) ∙ e
 
 pub small : {b n : ℕ} {z : ℤ} → Rep b z n → nat_abs (to_z w64 b) ≤ n
 small {n = n} u = subst (λ (y : ℤ). nat_abs y ≤ n) (sym u.value) u.magnitude

@@ -1,1 +1,2 @@
 // Theorems about whole numbers and lists; see specs/.
+#![tactic(auto)]

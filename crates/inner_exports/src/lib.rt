@@ -1,5 +1,7 @@
 // The function that makes a child, of both widths of number, under names that the tests beside the second program can call. An inner crate: no
 // library that is handed out has it, and its callers meet what each `requires` asks.
+#![tactic(auto)]
+
 ghost use Rattle.std.specs.Prelude.{◌≡◌, [], ◌∷◌, ◌<◌, length, pos};
 ghost use Rattle.foundation.specs.Least.{least_of};
 ghost use Rattle.definitions.specs.Eighths.{least_number};

@@ -1,5 +1,7 @@
 // The answers of an inspection and of the bounds service. Public: the inspector and the auditor answer with them, `brundhal_mesh_answers` and
 // `brundhal_bounds_answers` turn them into plain numbers. specs/Meaning.antt says what each case stands for.
+#![tactic(auto)]
+
 use inspection_counts::Counts;
 use wide_number::Wide;
 

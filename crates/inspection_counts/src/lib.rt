@@ -2,6 +2,8 @@
 //   Counts, Stamp  how many records there are of each kind, and the three stamps
 //   stamp_of       the stamp of an accepted mesh, by its counts
 // The inspections that answer with counts are in the crates `inspector` and `auditor`.
+#![tactic(auto)]
+
 ghost use Rattle.std.specs.Prelude.{◌≡◌};
 ghost use Rattle.definitions.specs.Mesh.{stamp_of};
 ghost use Rattle.inspection_counts.specs.Meaning.{counts_held, stamp_held};

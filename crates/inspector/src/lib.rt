@@ -3,6 +3,8 @@
 //   inspect   the records of a mesh's elements, into lent report space, with four counts; or the number that refuses the mesh
 //   bounds_of the low and the high bound of eight points at a depth; or the number that refuses them
 // The stamp of an accepted mesh, by its counts, is in the crate `inspection_counts`, the moves of cell addresses in `cell_address`.
+#![tactic(auto)]
+
 ghost use Rattle.std.specs.Prelude.{◌≡◌, length};
 ghost use Rattle.definitions.specs.Limits.{base};
 ghost use Rattle.definitions.specs.Mesh.{inspection, report_after, bounds_of};

@@ -1,5 +1,6 @@
 // Inner: the limits of the definitions as constants of the code, each once. Those of `base`, `record_words` and `version` in `definitions`, of `lot_file` in
 // `lot_format`, of `ample` in `lot_roundtrip_theory`, of `slip_limits` in `slip_format`, and `one_word_range` and `one_word_depth` in `narrow_points`; a contract that cites the definition is what holds a constant to it.
+#![tactic(auto)]
 
 // The greatest depth, and so the finest level of an address.
 pub const MAX_DEPTH: u32 = 8;

@@ -1,5 +1,7 @@
 // Handing out what one entry of a lot file holds, to lent space that is large enough for it. An inner crate: `lot_hand_out` meets what each
 // `requires` asks. Every answer is an equation with `Numbers` and `Reading` of the crate `lot_format`.
+#![tactic(auto)]
+
 ghost use Rattle.std.specs.Prelude.{◌≡◌, ◌∷◌, [], ◌+◌, ◌*◌, ◌≤◌, ◌<◌, length, take, drop};
 ghost use Rattle.foundation.specs.Laid.{put};
 ghost use Rattle.lot_format.specs.Numbers.{unsigneds, signeds};

@@ -1,6 +1,8 @@
 // The entries of a lot file, as a record of the file is called here: mark, length, body. What stands at a place of the file, and whether it is
 // right there. An inner crate: its callers meet what each `requires` asks.
 // Every answer is an equation with `Format` and `Reading` of the crate `lot_format` at the limits `lot_file`.
+#![tactic(auto)]
+
 ghost use Rattle.std.specs.Prelude.{◌≡◌, true, ◌+◌, ◌/◌, ◌%◌, ◌≤◌, ◌<◌, length, get_or, take, drop};
 ghost use Rattle.lot_format.specs.Numbers.{number};
 ghost use Rattle.lot_format.specs.Format.{lot_file, mark_of, right_length, name_byte, name_bytes};

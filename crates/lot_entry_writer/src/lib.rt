@@ -1,5 +1,7 @@
 // An entry of a lot file, laid over lent space from a place on; each function returns the place behind what it wrote. An inner crate:
 // its callers see that there is room. Every text is one of `Format` of the crate `lot_format`.
+#![tactic(auto)]
+
 ghost use Rattle.std.specs.Prelude.{◌≡◌, [], ◌++◌, ◌+◌, ◌≤◌, ◌<◌, length};
 ghost use Rattle.lot_format.specs.Numbers.{bits, number_bytes, unsigned_bytes, signed_bytes};
 ghost use Rattle.lot_format.specs.Format.{LB, ND, HX, EN, entry_bytes};

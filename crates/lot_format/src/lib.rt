@@ -1,1 +1,2 @@
 // The lot file: its definitions and what is proved of them. No code.
+#![tactic(auto)]

@@ -1,5 +1,7 @@
 // The name that is in force at an element of a lot, by its groups. An inner crate: it names an element from any lists, and leaves it to its
 // callers that the groups fit together. Every answer is an equation with `Naming` of the crate `lot_format`.
+#![tactic(auto)]
+
 ghost use Rattle.std.specs.Prelude.{◌≡◌, [], ◌+◌, ◌≤◌, min, length, take, drop};
 ghost use Rattle.lot_format.specs.Runs.{groups_of};
 ghost use Rattle.lot_format.specs.Naming.{name_in_force, place_in_force, name_of};

@@ -1,5 +1,7 @@
 // The groups of a lot as they are handed in: their tests, which the writer and the namer share. An inner crate.
 // Every answer is an equation with `Groups` of the crate `lot_format`.
+#![tactic(auto)]
+
 ghost use Rattle.std.specs.Prelude.{◌≡◌, eqb, length};
 ghost use Rattle.foundation.specs.Lists.{sum};
 ghost use Rattle.lot_format.specs.Format.{lot_file};

@@ -1,6 +1,8 @@
 // Handing out what a lot file holds, to lent space that is large enough for it.
 // An inner crate: only the reader calls it, and it meets what each `requires` asks.
 // Every answer is an equation with `Reading` of the crate `lot_format` at the limits `lot_file`.
+#![tactic(auto)]
+
 ghost use Rattle.std.specs.Prelude.{◌≡◌, ◌+◌, ◌<◌, length};
 ghost use Rattle.foundation.specs.Laid.{laid_over};
 ghost use Rattle.lot_format.specs.Format.{lot_file};

@@ -1,5 +1,7 @@
 // The marks of a lot file's entries: their letters, which stand where, and how long a body they have. An inner crate, for those that read and write entries.
 // Every answer is an equation with `Format` and `Reading` of the crate `lot_format` at the limits `lot_file`.
+#![tactic(auto)]
+
 ghost use Rattle.std.specs.Prelude.{◌≡◌, true, ◌/◌, ◌%◌};
 ghost use Rattle.lot_format.specs.Format.{lot_file, mark_of, right_length, in_place, stage_after};
 ghost use Rattle.lot_format.specs.Reading.{has_ended};

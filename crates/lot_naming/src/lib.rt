@@ -1,5 +1,7 @@
 // Naming an element: the service `name_of`, and `refusal_of` for callers that want only the number. Nothing has to be checked first: each
 // takes any lists and numbers, and states its whole answer as equations with `Naming` of the crate `lot_format` at the limits `lot_file`.
+#![tactic(auto)]
+
 ghost use Rattle.std.specs.Prelude.{◌≡◌, [], ◌∷◌};
 ghost use Rattle.lot_format.specs.Format.{lot_file};
 ghost use Rattle.lot_format.specs.Runs.{groups_of};

@@ -1,6 +1,8 @@
 // Reading a lot file: the service `read`. Nothing has to be checked first: it takes any bytes and any lent space, and states its whole
 // answer, every word of lent space included, as an equation with `Reading` of the crate `lot_format` at the limits `lot_file`.
 // A file is gone through twice: first for a fault, then, where it has none and the lent space is large enough, to hand out what it holds.
+#![tactic(auto)]
+
 ghost use Rattle.std.specs.Prelude.{◌≡◌, ◌+◌};
 ghost use Rattle.foundation.specs.Laid.{laid_over};
 ghost use Rattle.lot_format.specs.Format.{lot_file};

@@ -1,6 +1,8 @@
 // The scan of a lot file: its first fault, or how much it holds, and whether the lent space is large enough for it.
 // An inner crate: only the reader's own crates call it, and they meet what each `requires` asks.
 // Every answer is an equation with `Reading` of the crate `lot_format` at the limits `lot_file`.
+#![tactic(auto)]
+
 ghost use Rattle.std.specs.Prelude.{◌≡◌};
 ghost use Rattle.lot_format.specs.Format.{lot_file};
 ghost use Rattle.lot_format.specs.Reading.{read_lot, reading};

@@ -1,6 +1,8 @@
 // Writing a lot file: the service `write`. Nothing has to be checked first: it takes any runs and any lent space, and states its whole
 // answer, every byte of lent space included, as an equation with `Writing` of the crate `lot_format` at the limits `lot_file`.
 // All is tested first, in the order of the definitions' `tests`; then the file is written entry by entry.
+#![tactic(auto)]
+
 
 ghost use Rattle.std.specs.Prelude.{◌≡◌, length};
 ghost use Rattle.foundation.specs.Laid.{laid_over};

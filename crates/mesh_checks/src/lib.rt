@@ -1,6 +1,8 @@
 // Which meshes are refused. A mesh is a run of coordinates, three per node, and a run of indices, eight per element.
 // An inner crate: only the crates of the two inspectors call it, and they meet what each `requires` asks.
 // The answer is an equation with `Mesh` of the definitions at the limits `base`.
+#![tactic(auto)]
+
 ghost use Rattle.std.specs.Prelude.{◌≡◌, ◌<◌};
 ghost use Rattle.definitions.specs.Limits.{base};
 ghost use Rattle.definitions.specs.Mesh.{well_sized, refusal};

@@ -1,5 +1,7 @@
 // The record of one element: of eight points in range by the search, of an element with a fault by its fault. An inner crate: `mesh_records` meets
 // what each `requires` asks. Every answer is an equation with `Record` and `Mesh` of the definitions at the limits `base`.
+#![tactic(auto)]
+
 ghost use Rattle.std.specs.Prelude.{◌≡◌, ◌≤◌, length};
 ghost use Rattle.definitions.specs.Limits.{base};
 ghost use Rattle.definitions.specs.Mesh.{element_record};

@@ -1,6 +1,8 @@
 // Which elements are refused, and the record of one that is.
 // An inner crate: only the crates of the two inspectors call it, and they meet what each `requires` asks.
 // Every answer is an equation with `Mesh` and `Record` of the definitions at the limits `base`.
+#![tactic(auto)]
+
 ghost use Rattle.std.specs.Prelude.{◌≡◌, length, pos};
 ghost use Rattle.definitions.specs.Limits.{base};
 ghost use Rattle.definitions.specs.Record.{words};

@@ -1,6 +1,8 @@
 // An element's eight indices: the first that names no node, and the first two places with one index.
 // An inner crate: only the crates of the two inspectors call it, and they meet what each `requires` asks.
 // An element's place is the position 1 to 8 of one of its indices. Every answer is an equation with `Mesh` of the definitions.
+#![tactic(auto)]
+
 ghost use Rattle.std.specs.Prelude.{◌≡◌, ◌<◌, length};
 ghost use Rattle.definitions.specs.Mesh.{missing_index, named_twice};
 ghost use Rattle.mesh_points.specs.Meaning.{first_of};

@@ -1,6 +1,8 @@
 // An element's eight points, and whether they lie within the limits: x, y, z of each place, 24 coordinates.
 // An inner crate: only the crates of the two inspectors call it, and they meet what each `requires` asks.
 // Every answer is an equation with `Mesh` of the definitions at the limits `base`.
+#![tactic(auto)]
+
 ghost use Rattle.std.specs.Prelude.{◌≡◌, ℕ, ◌/◌, ◌<◌, length, get_or};
 ghost use Rattle.definitions.specs.Limits.{base};
 ghost use Rattle.definitions.specs.Mesh.{usable, points_of, out_of_range};

@@ -1,6 +1,8 @@
 // The records of a mesh's elements, one after the other into the report space, and how many there are of each kind.
 // An inner crate: only the inspector calls it, and it meets what each `requires` asks.
 // Every answer is an equation with `Record` and `Mesh` of the definitions at the limits `base`.
+#![tactic(auto)]
+
 ghost use Rattle.std.specs.Prelude.{◌≡◌, ◌*◌, ◌/◌, ◌%◌, ◌≤◌, length};
 ghost use Rattle.definitions.specs.Limits.{base, record_words};
 ghost use Rattle.definitions.specs.Mesh.{records, report as reportOf, counts_of};

@@ -1,5 +1,7 @@
 // The report space of a mesh, a record for each element, and how many records there are of each kind.
 // An inner crate, for the crates that write reports, which meet what each `requires` asks.
+#![tactic(auto)]
+
 ghost use Rattle.std.specs.Prelude.{◌≡◌, true, ◌++◌, ◌+◌, ◌-◌, ◌*◌, ◌^◌, ◌<◌, ◌≤◌, length, take, drop};
 ghost use Rattle.definitions.specs.Limits.{record_words};
 ghost use Rattle.definitions.specs.Record.{kind_word};

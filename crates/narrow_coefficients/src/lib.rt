@@ -2,6 +2,8 @@
 //
 // An inner crate: the inspector's other crates use it, callers of the inspector do not. It refuses nothing, so whoever calls it has tested
 // the coordinates. It offers `coefficients`.
+#![tactic(auto)]
+
 ghost use Rattle.std.specs.Prelude.{◌≡◌};
 ghost use Rattle.foundation.specs.Lists.{tabulate};
 ghost use Rattle.foundation.specs.Polynomial.{integers};

@@ -1,4 +1,6 @@
 // The halves of a cell in each direction, row by row, with numbers of one word. An inner crate, for `narrow_subdivision`.
+#![tactic(auto)]
+
 ghost use Rattle.expansion_theory.specs.Rows.{Holds};
 ghost use Rattle.narrow_rows.specs.Word.{cut_largest};
 

@@ -1,4 +1,6 @@
 // The lowest number of a cell's low coefficients, with numbers of one word. An inner crate, for `narrow_children` and `narrow_search`.
+#![tactic(auto)]
+
 ghost use Rattle.std.specs.Prelude.{◌≡◌, ◌≤◌};
 ghost use Rattle.search_theory.specs.Meaning.{lowest as lowestOf};
 

@@ -1,5 +1,7 @@
 // The record and both bounds of eight points that one word suffices for: coordinates to 4,096, depth to 3. An inner crate, for `search_points`, which
 // meets what each `requires` asks. specs/Points.antt is the place where range, depth and word meet.
+#![tactic(auto)]
+
 ghost use Rattle.std.specs.Prelude.{◌≡◌, ◌≤◌};
 ghost use Rattle.definitions.specs.Record.{record_of};
 ghost use Rattle.search_theory.specs.Bounds.{bounds_at};

@@ -1,4 +1,6 @@
 // A row of three numbers of one word, cut by de Casteljau's rule and kept four times larger. An inner crate, for `narrow_halves` and, its middle, for `narrow_grid`.
+#![tactic(auto)]
+
 ghost use Rattle.std.specs.Prelude.{◌≡◌, [], ◌∷◌, ◌+◌, ◌<◌, length, set};
 ghost use Rattle.foundation.specs.Polynomial.{integers};
 ghost use Rattle.foundation.specs.Words.{args, Within};

@@ -1,5 +1,7 @@
 // The recursive search of an element's cells, with numbers of one word. An inner crate, for the inspector's own crates: its
 // callers see to it that the numbers stay small enough at every level that is asked for (`Small`).
+#![tactic(auto)]
+
 ghost use Rattle.std.specs.Prelude.{◌≡◌, false, List, ◌-◌, ◌^◌, ◌≤◌, ℤ};
 ghost use Rattle.definitions.specs.Limits.{base};
 ghost use Rattle.definitions.specs.Coefficients.{coefficients};

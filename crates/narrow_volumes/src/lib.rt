@@ -1,4 +1,6 @@
 // An inner crate, for `narrow_coefficients`. The twenty volumes: J at the corners and four times J at the edge middles, each a determinant of three vectors. Nodes go by their numbers, 1 to 8.
+#![tactic(auto)]
+
 ghost use Rattle.std.specs.Prelude.{◌≡◌, [], ◌∷◌};
 ghost use Rattle.foundation.specs.Polynomial.{integers};
 ghost use Rattle.definitions.specs.Jacobian.{nodes_of};

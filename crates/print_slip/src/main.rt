@@ -1,5 +1,7 @@
 // Reads a lot from standard input and prints its slip. One byte more than a lot may have is read, so that a longer input is seen to be too
 // long. An input that cannot be read to its end prints "unreadable"; a read that a signal interrupts is tried again.
+#![tactic(auto)]
+
 ghost use Rattle.std.specs.Prelude.{length};
 ghost use Rattle.print_slip.specs.Input.{Some, Within};
 

@@ -1,5 +1,7 @@
 // Inspects the worked elements of the scope document, one that names a node three times and two as large as they can be, and prints their records at every depth, and
 // their bounds where these are worked in no time: to depth 5, and of case F to depth 8.
+#![tactic(auto)]
+
 use inspection_answers::Bounds;
 use limits::{MAX_DEPTH, RECORD_WORDS};
 use wide_number::{Single, Wide};

@@ -1,4 +1,6 @@
 // The cells of the last level as a pass opens them: one with a low coefficient, or so many without. An inner crate, for the two searches.
+#![tactic(auto)]
+
 ghost use Rattle.std.specs.Prelude.{◌≡◌, false, List, ◌-◌, ◌<◌, ◌≤◌, get_or, ℤ, pos};
 ghost use Rattle.verdict_theory.specs.Search.{Pass, ended as has_ended, open_cell};
 ghost use Rattle.verdict_theory.specs.Clear.{more, opened_clear};

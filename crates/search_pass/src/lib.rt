@@ -1,5 +1,7 @@
 // A pass of the search: what it found and how many cells it opened, in eight words that are lent and changed where they lie; a value is in
 // two of them. An inner crate, for `search_opening` and the two searches.
+#![tactic(auto)]
+
 ghost use Rattle.std.specs.Prelude.{◌≡◌};
 ghost use Rattle.definitions.specs.Record.{verdict_words};
 ghost use Rattle.verdict_theory.specs.Search.{Pass, ended as has_ended};

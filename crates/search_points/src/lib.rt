@@ -1,5 +1,7 @@
 // The record and both bounds of eight points within the limits `base`: with numbers of one word where these suffice, else with numbers of two. An inner
 // crate, and the one place that decides between the two searches; its callers meet what each `requires` asks.
+#![tactic(auto)]
+
 ghost use Rattle.std.specs.Prelude.{◌≡◌, ◌≤◌, length};
 ghost use Rattle.definitions.specs.Limits.{base};
 ghost use Rattle.definitions.specs.Record.{record_of};

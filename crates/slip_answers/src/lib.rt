@@ -1,5 +1,7 @@
 // The slip by the answer of the reader, whose lent runs are handed in, laid over lent space from a place on; it returns the place
 // behind it. An inner crate: its callers see that there is room, and that the words which the answer counts are there.
+#![tactic(auto)]
+
 ghost use Rattle.std.specs.Prelude.{◌≡◌, ◌+◌, ◌*◌, ◌≤◌, length};
 ghost use Rattle.definitions.specs.Limits.{record_words};
 ghost use Rattle.slip_format.specs.Slip.{slip_limits};

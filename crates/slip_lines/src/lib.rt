@@ -1,5 +1,7 @@
 // The lines of a slip, laid over lent space from a place on; each function returns the place behind its text. An inner crate: its callers
 // see that there is room. Every text is the one that `Decimal` and `Slip` of the crate `slip_format` define.
+#![tactic(auto)]
+
 ghost use Rattle.std.specs.Prelude.{[], ◌∷◌, map, suc, ◌+◌, ◌≤◌, length};
 ghost use Rattle.slip_format.specs.Decimal.{decimal, signed_decimal};
 ghost use Rattle.slip_format.specs.Slip.{line, word_lot, refused_line};

@@ -1,6 +1,8 @@
 // The slip of a lot whose mesh is inspected for it, laid over lent space from a place on; each function returns the place behind its text. An
 // inner crate: its callers see that there is room, and that the words which an answer of the reader counts are there. Every text is the one
 // that `Slip` of the crate `slip_format` defines.
+#![tactic(auto)]
+
 ghost use Rattle.std.specs.Prelude.{◌≡◌, ◌+◌, ◌*◌, ◌/◌, ◌≤◌, length, get_or};
 ghost use Rattle.definitions.specs.Limits.{record_words, base};
 ghost use Rattle.slip_format.specs.Slip.{slip_limits, mesh_slip};

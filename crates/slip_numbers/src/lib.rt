@@ -1,5 +1,7 @@
 // Numbers in decimal, laid over lent space from a place on; each function returns the place behind its text. An inner crate: its callers see
 // that there is room. Every text is the one that `Decimal` of the crate `slip_format` defines.
+#![tactic(auto)]
+
 ghost use Rattle.std.specs.Prelude.{◌≡◌, ◌+◌, ◌≤◌, ◌<◌, length, nat_abs};
 ghost use Rattle.slip_format.specs.Decimal.{decimal, signed_decimal};
 ghost use Rattle.bytes_output.specs.Behind.{Laid};

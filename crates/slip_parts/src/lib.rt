@@ -1,6 +1,8 @@
 // The lines of a lot's elements, and the slip of a lot that was inspected, laid over lent space from a place on; each function returns
 // the place behind its text. An inner crate: its callers see that there is room. Every text is the one that `Slip` of the crate
 // `slip_format` defines.
+#![tactic(auto)]
+
 ghost use Rattle.std.specs.Prelude.{◌+◌, ◌*◌, ◌/◌, ◌≤◌, length};
 ghost use Rattle.definitions.specs.Limits.{record_words};
 ghost use Rattle.slip_format.specs.Slip.{slip_limits, element_lines, inspected_slip};

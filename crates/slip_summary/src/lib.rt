@@ -1,6 +1,8 @@
 // The last two lines of a slip, the four counts and the stamp, laid over lent space from a place on; each function returns the
 // place behind its text. An inner crate: its callers see that there is room. Every text is the one that `Slip` of the crate
 // `slip_format` defines.
+#![tactic(auto)]
+
 ghost use Rattle.std.specs.Prelude.{◌≡◌, [], ◌∷◌, ◌+◌, ◌≤◌, length};
 ghost use Rattle.slip_format.specs.Slip.{line, word_stamp, stamp_word, tally_line};
 ghost use Rattle.inspection_counts.specs.Meaning.{counts_held, stamp_held};

@@ -1,6 +1,8 @@
 // The printed slip of a lot: the service `write`. Nothing has to be checked first: it takes any bytes, and states its whole answer, every
 // byte of lent space included, as an equation with `Slip` of the crate `slip_format` at the limits `base`, `lot_file` and `slip_limits`.
 // `file_slip` lays the slip over lent space from a place on, returns the place behind it, and leaves it to its caller that there is room.
+#![tactic(auto)]
+
 ghost use Rattle.std.specs.Prelude.{◌≡◌, ◌+◌, ◌*◌, ◌≤◌, length};
 ghost use Rattle.foundation.specs.Laid.{laid_over};
 ghost use Rattle.definitions.specs.Limits.{record_words, base};

@@ -1,1 +1,2 @@
 // What the verdict, the record and the bounds promise: theorems only, see specs/.
+#![tactic(auto)]

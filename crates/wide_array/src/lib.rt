@@ -1,4 +1,6 @@
 // 27 numbers of two words each, lent as 54 words: one read, and one put. An inner crate, for the crates `wide_*` and `audit_*`.
+#![tactic(auto)]
+
 ghost use Rattle.std.specs.Prelude.{◌≡◌, ◌<◌, length};
 ghost use Rattle.wide_array.specs.Values.{low_at, high_at, put_number};
 

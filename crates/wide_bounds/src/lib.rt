@@ -1,5 +1,7 @@
 // Both bounds of eight points by recursion, with numbers of two words. An inner crate, for the inspector's own crates: its callers see to it that the
 // numbers stay small enough at every level that is asked for (`Small`).
+#![tactic(auto)]
+
 ghost use Rattle.std.specs.Prelude.{◌≡◌, List, take, ℤ};
 ghost use Rattle.foundation.specs.Least.{least_from, least_of};
 ghost use Rattle.definitions.specs.Coefficients.{coefficients};

@@ -1,6 +1,8 @@
 // The cut of a cell into its eight children, one after the other, by halves and quarters, with numbers of two words: each half and quarter is made where the
 // first child in it is due, and one without a low coefficient has no child with one. Of every child that is made the least coefficient is answered, and
 // the lowest number that holds it. An inner crate, for `wide_search` and `wide_bounds`.
+#![tactic(auto)]
+
 ghost use Rattle.std.specs.Prelude.{◌≡◌, false, ◌&&◌, ◌<◌, eqb, length};
 ghost use Rattle.definitions.specs.Jacobian.{side};
 ghost use Rattle.definitions.specs.Subdivision.{halve};

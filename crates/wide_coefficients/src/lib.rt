@@ -2,6 +2,8 @@
 //
 // An inner crate, beside `narrow_coefficients` for coordinates to 65,536. The volumes come in two digits of one word each. A row of the table is
 // linear, so the rows are worked against the upper digits and against the lower ones, in one word, and their results are joined.
+#![tactic(auto)]
+
 ghost use Rattle.std.specs.Prelude.{◌≡◌, length, pos, ◌+ℤ◌, ◌*ℤ◌};
 ghost use Rattle.foundation.specs.Lists.{tabulate};
 ghost use Rattle.definitions.specs.Limits.{base};

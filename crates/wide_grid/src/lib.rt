@@ -1,4 +1,6 @@
 // J at the 27 grid points of the next level in a cell, as far as its sign is asked for, with numbers of two words. An inner crate, for `wide_search`.
+#![tactic(auto)]
+
 ghost use Rattle.std.specs.Prelude.{◌≡◌, [], ◌∷◌, ◌<◌};
 ghost use Rattle.foundation.specs.Words.{args, Within};
 ghost use Rattle.expansion_theory.specs.Rows.{line_at};

@@ -1,4 +1,6 @@
 // The halves of a cell in each direction, row by row, with numbers of two words. An inner crate, for `wide_subdivision`.
+#![tactic(auto)]
+
 ghost use Rattle.wide_array.specs.Rows.{RowsHeld};
 
 // The lower half of c in direction ξ, row by row. The numbers of each row are written out, here and below, so that the

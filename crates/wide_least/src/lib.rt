@@ -1,5 +1,7 @@
 // The least of a cell's 27 coefficients and the lowest number that holds it, with numbers of two words. An inner crate, for `wide_children`
 // and `wide_bounds`.
+#![tactic(auto)]
+
 ghost use Rattle.std.specs.Prelude.{◌≡◌, ◌<◌};
 ghost use Rattle.foundation.specs.Least.{lesser as lesserOf, least_from, least_of};
 ghost use Rattle.definitions.specs.Eighths.{least_number, eighth_of};

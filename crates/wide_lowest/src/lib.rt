@@ -1,4 +1,6 @@
 // The lowest number of a cell's low coefficients, with numbers of two words. An inner crate, for `wide_children` and `wide_search`.
+#![tactic(auto)]
+
 ghost use Rattle.std.specs.Prelude.{◌≡◌, ◌≤◌};
 ghost use Rattle.search_theory.specs.Meaning.{lowest as lowestOf};
 ghost use Rattle.wide_array.specs.Values.{values};

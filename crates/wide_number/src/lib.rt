@@ -2,6 +2,8 @@
 // and each answer is an equation with the value that document 02, No. 8, gives two words (`definitions`, TwoWords). Where the exact
 // whole number lies within −2^127..2^127 − 1, the answer is that number, for one operation and for a run of them of which only the
 // last has to fit: `wrapping_theory`, Wrapping and Runs.
+#![tactic(auto)]
+
 ghost use Rattle.std.specs.Prelude.{◌≡◌, ◌*◌, pos, ◌+ℤ◌, ◌-ℤ◌, ◌*ℤ◌, int_le};
 ghost use Rattle.std.specs.Int.{w64};
 ghost use Rattle.std.proofs.Common.{to_z};

@@ -1,5 +1,7 @@
 // The record and both bounds of eight points within the limits `base`, with numbers of two words. An inner crate, for `search_points`, which meets
 // what each `requires` asks. specs/Points.antt is the place where range, depth and words meet.
+#![tactic(auto)]
+
 ghost use Rattle.std.specs.Prelude.{◌≡◌, ◌≤◌};
 ghost use Rattle.definitions.specs.Limits.{base};
 ghost use Rattle.definitions.specs.Record.{record_of};

@@ -1,4 +1,6 @@
 // A row of three numbers of two words, cut by de Casteljau's rule and kept four times larger. An inner crate, for `wide_halves` and, its middle, for `wide_grid`.
+#![tactic(auto)]
+
 ghost use Rattle.std.specs.Prelude.{◌≡◌, [], ◌∷◌, ◌+◌, ◌<◌, length};
 ghost use Rattle.foundation.specs.Polynomial.{integers};
 ghost use Rattle.foundation.specs.Words.{args, Within};

@@ -1,6 +1,8 @@
 // The 27 coefficients of one half of a cell, by de Casteljau's rule, with numbers of two words.
 // An inner crate, for the inspector's other crates. It offers `halve`, which writes the coefficients of the half, four times
 // larger, into lent space.
+#![tactic(auto)]
+
 ghost use Rattle.std.specs.Prelude.{◌≡◌, ◌<◌, length};
 ghost use Rattle.definitions.specs.Subdivision.{halve};
 ghost use Rattle.expansion_theory.specs.Control.{Cuttable};

@@ -1,6 +1,8 @@
 // An inner crate, for `wide_coefficients`. The twenty volumes of eight points whose coordinates go to 1,048,576: J at the corners and four times
 // J at the edge middles. One word does not hold them, so each is given by two digits that one word holds, 2048 times the upper and the lower.
 // A volume is a determinant, and linear in its first vector u: with u = 2048 · u' + u'' its digits are the determinants with u' and with u''.
+#![tactic(auto)]
+
 ghost use Rattle.std.specs.Prelude.{◌≡◌, [], ◌∷◌, ◌+◌, ◌-◌, ◌<◌, ◌≤◌, get_or, set, length};
 ghost use Rattle.foundation.specs.Polynomial.{integers};
 ghost use Rattle.foundation.specs.Words.{Within};
