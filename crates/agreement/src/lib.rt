@@ -13,14 +13,14 @@ ghost use Rattle.inspection_answers.specs.Back.{bounds_back};
 use inspection_answers::{Bounds, Inspection};
 
 // The answers of both inspections.
-#[derive(Drop)]
+#[derive(Clone, Copy)]
 pub struct Inspections {
     pub first: Inspection,
     pub second: Inspection,
 }
 
 // The answers of both bounds services.
-#[derive(Drop)]
+#[derive(Clone, Copy)]
 pub struct BothBounds {
     pub first: Bounds,
     pub second: Bounds,

@@ -16,7 +16,7 @@ use limits::RECORD_WORDS;
 use wide_number::Wide;
 
 // What a search found: the grid numbers, the number and the value of a low corner or a low coefficient.
-#[derive(Drop)]
+#[derive(Clone, Copy)]
 pub struct Finding {
     pub a: u32,
     pub b: u32,
@@ -27,7 +27,7 @@ pub struct Finding {
 
 // Of a search how many cells were opened, and what was found: nothing, a low coefficient, or a low corner. Of a survey the least coefficient and the
 // least corner.
-#[derive(Drop)]
+#[derive(Clone, Copy)]
 pub enum Notes {
     Nothing(u32),
     Coefficient(u32, Finding),
@@ -36,7 +36,7 @@ pub enum Notes {
 }
 
 // The least coefficient and the least corner.
-#[derive(Drop)]
+#[derive(Clone, Copy)]
 pub struct Extremes {
     pub low: Wide,
     pub high: Wide,

@@ -11,7 +11,7 @@ use inspection_answers::Bounds;
 
 // The number that answers the bounds service, 0, 1 or 6, and both bounds.
 #[repr(C)]
-#[derive(Drop)]
+#[derive(Clone, Copy)]
 pub struct BrundhalBounds {
     pub number: u32,
     pub low: BrundhalNumber,

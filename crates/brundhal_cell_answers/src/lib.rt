@@ -10,7 +10,7 @@ use cell_address::{Address, Moved};
 
 // A level and three grid numbers.
 #[repr(C)]
-#[derive(Drop)]
+#[derive(Clone, Copy)]
 pub struct BrundhalAddress {
     pub level: u32,
     pub a: u32,
@@ -20,7 +20,7 @@ pub struct BrundhalAddress {
 
 // Whether a move was made, 1 or 0, and the address that it led to, or the same one.
 #[repr(C)]
-#[derive(Drop)]
+#[derive(Clone, Copy)]
 pub struct BrundhalMove {
     pub made: u32,
     pub level: u32,

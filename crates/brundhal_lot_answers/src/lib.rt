@@ -8,7 +8,7 @@ ghost use Rattle.brundhal_lot_answers.specs.Meaning.{lot_fields, label_start, lo
 // The number that answers the reading of a lot file, 0 or 20 to 27, the numbers of nodes, elements, groups and bytes of the groups' names,
 // and where in the file the label stands: its first byte's place and its length.
 #[repr(C)]
-#[derive(Drop)]
+#[derive(Clone, Copy)]
 pub struct BrundhalLot {
     pub number: u32,
     pub nodes: u32,

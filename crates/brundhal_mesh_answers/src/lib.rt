@@ -12,7 +12,7 @@ use inspection_counts::{Counts, Stamp};
 
 // The number that answers an inspection, 0 or 1 to 4, and the four counts.
 #[repr(C)]
-#[derive(Drop)]
+#[derive(Clone, Copy)]
 pub struct BrundhalInspection {
     pub number: u32,
     pub valid: u32,

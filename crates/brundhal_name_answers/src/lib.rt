@@ -10,7 +10,7 @@ use lot_group_names::Part;
 // The number that answers the naming of an element, 0 or 24, 23, 25, 28, and the name that it bears: 1 and the place and length of a part of
 // the names; or 0, 0 and the length of the label, whose whole it is. A refusal has 0 for each.
 #[repr(C)]
-#[derive(Drop)]
+#[derive(Clone, Copy)]
 pub struct BrundhalName {
     pub number: u32,
     pub grouped: u32,

@@ -11,7 +11,7 @@ use wide_number::{Order, Single, Wide};
 
 // The low word, and then the high one.
 #[repr(C)]
-#[derive(Drop)]
+#[derive(Clone, Copy)]
 pub struct BrundhalNumber {
     pub low: u64,
     pub high: u64,
@@ -19,7 +19,7 @@ pub struct BrundhalNumber {
 
 // Whether one word holds a number, 1 or 0, and the number, or 0.
 #[repr(C)]
-#[derive(Drop)]
+#[derive(Clone, Copy)]
 pub struct BrundhalSingle {
     pub fits: u32,
     pub value: i64,

@@ -11,7 +11,7 @@ use lot_writer::{Unwritable, Written};
 
 // The number that answers the writing of a lot file, 0 with the file's length, or the number that refuses it with 0.
 #[repr(C)]
-#[derive(Drop)]
+#[derive(Clone, Copy)]
 pub struct BrundhalWritten {
     pub number: u32,
     pub len: u32,

@@ -13,7 +13,7 @@ ghost use Rattle.cell_address.specs.Meaning.{address_of, move_of, offset_by};
 use limits::MAX_DEPTH;
 
 // A level and the grid numbers of a point, in steps of 1/2^level: of a cell its lowest corner.
-#[derive(Drop)]
+#[derive(Clone, Copy)]
 pub struct Address {
     pub level: u32,
     pub a: u32,
@@ -22,7 +22,7 @@ pub struct Address {
 }
 
 // The answer of a move.
-#[derive(Drop)]
+#[derive(Clone, Copy)]
 pub enum Moved {
     // The move was made, and led to this address.
     To(Address),

@@ -6,7 +6,7 @@ use inspection_counts::Counts;
 use wide_number::Wide;
 
 // The answer of an inspection: accepted, with the counts of valid, invalid, undecided and refused records; or why the mesh is refused.
-#[derive(Drop)]
+#[derive(Clone, Copy)]
 pub enum Inspection {
     Accepted(Counts),
     DepthTooGreat,
@@ -16,7 +16,7 @@ pub enum Inspection {
 }
 
 // The answer of the bounds service: the low and the high bound, or why the points are refused.
-#[derive(Drop)]
+#[derive(Clone, Copy)]
 pub enum Bounds {
     Both(Wide, Wide),
     TooDeep,

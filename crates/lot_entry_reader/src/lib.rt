@@ -14,7 +14,7 @@ use limits::MAX_ELEMENTS;
 use lot_marks::{Mark, Marked, Stage};
 
 // Why a lot is refused.
-#[derive(Drop)]
+#[derive(Clone, Copy)]
 pub enum Unreadable {
     TooLong,
     CutShort,
@@ -27,14 +27,14 @@ pub enum Unreadable {
 }
 
 // Whether a body is as it should be.
-#[derive(Drop)]
+#[derive(Clone, Copy)]
 enum Body {
     Right,
     Wrong(Unreadable),
 }
 
 // What stands at a place of the file: a fault, or a whole entry, by its mark and the length of its body.
-#[derive(Drop)]
+#[derive(Clone, Copy)]
 pub enum Entry {
     Faulty(Unreadable),
     Whole(Mark, usize),

@@ -8,7 +8,7 @@ ghost use Rattle.lot_format.specs.Naming.{name_in_force, place_in_force, name_of
 ghost use Rattle.lot_group_names.specs.Place.{place_of};
 
 // A part of the names laid end to end.
-#[derive(Drop)]
+#[derive(Clone, Copy)]
 pub struct Part {
     pub start: usize,
     pub len: usize,

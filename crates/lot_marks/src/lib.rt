@@ -21,7 +21,7 @@ pub const LETTERS_GR: u32 = 0x5247;
 pub const LETTERS_EN: u32 = 0x4e45;
 
 // The mark of an entry.
-#[derive(Drop)]
+#[derive(Clone, Copy)]
 pub enum Mark {
     LB,
     ND,
@@ -31,14 +31,14 @@ pub enum Mark {
 }
 
 // The mark that two bytes are.
-#[derive(Drop)]
+#[derive(Clone, Copy)]
 pub enum Marked {
     Known(Mark),
     Unknown,
 }
 
 // Which marks are in place: none was read yet; the label or a node was; an element or a group was; the end was.
-#[derive(Drop)]
+#[derive(Clone, Copy)]
 pub enum Stage {
     AtLabel,
     AtNodes,

@@ -13,7 +13,7 @@ use lot_entry_reader::{Entry, Unreadable};
 use lot_marks::{Mark, Stage};
 
 // The bytes of the label, the numbers of nodes, elements and groups, and the bytes of the groups' names.
-#[derive(Drop)]
+#[derive(Clone, Copy)]
 pub struct Counts {
     pub label: usize,
     pub nodes: usize,
@@ -23,14 +23,14 @@ pub struct Counts {
 }
 
 // What the scan of a file finds.
-#[derive(Drop)]
+#[derive(Clone, Copy)]
 pub enum Scan {
     Counted(Counts),
     Refused(Unreadable),
 }
 
 // The lengths of the lent runs.
-#[derive(Drop)]
+#[derive(Clone, Copy)]
 pub struct Room {
     pub nodes: usize,
     pub elements: usize,

@@ -15,7 +15,7 @@ ghost use Rattle.bytes_output.specs.Behind.{Laid};
 ghost use Rattle.lot_writer.specs.Meaning.{runs, written_held, answer_of, capped};
 
 // Why runs are not written.
-#[derive(Drop)]
+#[derive(Clone, Copy)]
 pub enum Unwritable {
     PartialNode,
     PartialElement,
@@ -28,7 +28,7 @@ pub enum Unwritable {
 }
 
 // The answer: how many bytes were written, or why none was.
-#[derive(Drop)]
+#[derive(Clone, Copy)]
 pub enum Written {
     Length(usize),
     Refused(Unwritable),

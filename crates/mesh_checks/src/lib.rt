@@ -11,7 +11,7 @@ ghost use Rattle.mesh_checks.specs.Meaning.{check_of};
 use limits::{MAX_DEPTH, MAX_ELEMENTS, MAX_NODES, RECORD_WORDS};
 
 // Whether a mesh is accepted, or which refusal it meets first.
-#[derive(Drop)]
+#[derive(Clone, Copy)]
 pub enum Checked {
     Accepted,
     DepthTooGreat,

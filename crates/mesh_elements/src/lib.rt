@@ -13,7 +13,7 @@ use limits::RECORD_WORDS;
 use mesh_points::First;
 
 // Whether an element can be inspected, or why it is refused.
-#[derive(Drop)]
+#[derive(Clone, Copy)]
 pub enum Element {
     Whole,
     // The place, 1 to 8, of an index that names no node, and that index.

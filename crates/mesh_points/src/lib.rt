@@ -11,7 +11,7 @@ ghost use Rattle.mesh_points.specs.Meaning.{first_of};
 use limits::{MAX_COORDINATE, MIN_COORDINATE};
 
 // The first of a row of numbers, or of pairs of places, that is not as it should be, counted from 0.
-#[derive(Drop)]
+#[derive(Clone, Copy)]
 pub enum First {
     At(u32),
     Nothing,

@@ -16,7 +16,7 @@ ghost use Rattle.narrow_bounds.specs.Meaning.{extremes_of};
 const GREATEST: i64 = 9223372036854775807;
 
 // The least coefficient and the least corner of the cells seen so far.
-#[derive(Drop)]
+#[derive(Clone, Copy)]
 pub struct Extremes {
     pub low: i64,
     pub high: i64,

@@ -9,7 +9,7 @@ ghost use Rattle.expansion_theory.specs.Rows.{line_at};
 ghost use Rattle.narrow_least.specs.Meaning.{told};
 
 // The least, and its number, from 1.
-#[derive(Drop)]
+#[derive(Clone, Copy)]
 pub struct Least {
     pub value: i64,
     pub number: usize,

@@ -18,7 +18,7 @@ use limits::{GREATEST_HIGH, GREATEST_LOW};
 use wide_number::Wide;
 
 // The least coefficient and the least corner of the cells seen so far.
-#[derive(Drop)]
+#[derive(Clone, Copy)]
 pub struct Extremes {
     pub low: Wide,
     pub high: Wide,

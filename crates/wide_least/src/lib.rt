@@ -13,7 +13,7 @@ ghost use Rattle.wide_least.specs.Meaning.{told};
 use wide_number::Wide;
 
 // The least, and its number, from 1.
-#[derive(Drop)]
+#[derive(Clone, Copy)]
 pub struct Least {
     pub value: Wide,
     pub number: usize,

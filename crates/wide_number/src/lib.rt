@@ -17,13 +17,13 @@ const SIGN: u64 = 9223372036854775808;
 // Two to the power of half a word's bits.
 const HALF: u64 = 4294967296;
 
-#[derive(Drop)]
+#[derive(Clone, Copy)]
 pub struct Wide {
     pub low: u64,
     pub high: u64,
 }
 
-#[derive(Drop)]
+#[derive(Clone, Copy)]
 pub enum Order {
     Less,
     Equal,
@@ -31,7 +31,7 @@ pub enum Order {
 }
 
 // What a number of two words is in one word.
-#[derive(Drop)]
+#[derive(Clone, Copy)]
 pub enum Single {
     Number(i64),
     TooLong,

@@ -1,13 +1,13 @@
 -- `compare` meets its contract: by the high words where they differ, else by the low ones. Assumes nothing.
-use Rattle.std.proofs.Common.{◌≡◌, Bool, true, false, sym, ◌∙◌, ap₂, arith, rules, le-ltb, lt-ltb}
+use Rattle.std.proofs.Common.{◌≡◌, Bool, true, false, sym, ◌∙◌, ap₂, arith, le-ltb, lt-ltb}
 use lib.Signed.{lt_z}
 use Rattle.wrapping_theory.specs.Words.{AreWords}
 use Rattle.wrapping_theory.specs.Order.{less_high, more_high, less_low}
 use Rattle.wide_number.specs.Meaning.{value_of, order_of}
 use Rattle.wide_number.specs.declared.Order.{Order}
 use Rattle.wide_number.specs.declared.Order.TheVariants.{Less, Equal, Greater}
-use Rattle.wide_number.proofs.Wide.compare.Statement.{statement}
 use Rattle.wide_number.proofs.Wide.compare.Tie as tie
+use Rattle.wide_number.proofs.Wide.compare.Goals as goal
 
 -- the order by its two tests
 abbrev order : Bool → Bool → Order
@@ -24,33 +24,22 @@ module _ (s : tie.Start) where
   unfolding order_of
   told a b p q = sym (ap₂ order p q)
 
-lifted-requires : tie.Need-lifted-requires
-lifted-requires c κs = search rules
-
-lifted-requires-2 : tie.Need-lifted-requires-2
-lifted-requires-2 c κs = search rules
-
-returns : tie.Need-returns
-returns c = let s = c.before.before.before in let x = s.args.self in let y = s.args.y in
+pub returns-then-a-b : goal.returns-then-a-b
+returns-then-a-b c = let s = c.before.before.before in let x = s.args.self in let y = s.args.y in
     told s true false (less_high x.low x.high y.low y.high (mine s) (other s) (omega arith)) (more_high y.low y.high x.low x.high (other s) (mine s) (omega arith))
 
-returns-2 : tie.Need-returns-2
-returns-2 c = let s = c.before.before.before.before in let x = s.args.self in let y = s.args.y in
+pub returns-then-b-a : goal.returns-then-b-a
+returns-then-b-a c = let s = c.before.before.before.before in let x = s.args.self in let y = s.args.y in
     told s false true (more_high x.low x.high y.low y.high (mine s) (other s) (omega arith)) (less_high y.low y.high x.low x.high (other s) (mine s) (omega arith))
 
-returns-3 : tie.Need-returns-3
-returns-3 c = let s = c.before.before.before.before.before.before.before in let x = s.args.self in let y = s.args.y in
+pub returns-then-y-self : goal.returns-then-y-self
+returns-then-y-self c = let s = c.before.before.before.before.before.before.before in let x = s.args.self in let y = s.args.y in
     told s true false (less_low x.low x.high y.low y.high (mine s) (other s) (omega arith) ∙ lt-ltb x.low y.low (omega arith)) (less_low y.low y.high x.low x.high (other s) (mine s) (omega arith) ∙ le-ltb y.low x.low (omega arith))
 
-returns-4 : tie.Need-returns-4
-returns-4 c = let s = c.before.before.before.before.before.before.before.before.before.before in let x = s.args.self in let y = s.args.y in
+pub returns-then-y-self-2 : goal.returns-then-y-self-2
+returns-then-y-self-2 c = let s = c.before.before.before.before.before.before.before.before.before.before in let x = s.args.self in let y = s.args.y in
     told s false true (less_low x.low x.high y.low y.high (mine s) (other s) (omega arith) ∙ le-ltb x.low y.low (omega arith)) (less_low y.low y.high x.low x.high (other s) (mine s) (omega arith) ∙ lt-ltb y.low x.low (omega arith))
 
-returns-5 : tie.Need-returns-5
-returns-5 c = let s = c.before.before.before.before.before.before.before.before.before.before in let x = s.args.self in let y = s.args.y in
+pub returns : goal.returns
+returns c = let s = c.before.before.before.before.before.before.before.before.before.before in let x = s.args.self in let y = s.args.y in
     told s false false (less_low x.low x.high y.low y.high (mine s) (other s) (omega arith) ∙ le-ltb x.low y.low (omega arith)) (less_low y.low y.high x.low x.high (other s) (mine s) (omega arith) ∙ le-ltb y.low x.low (omega arith))
-
-pub compare-spec : {M : Type 1} → statement M
-compare-spec =
-    tie.close
-    (tie.spec lifted-requires lifted-requires-2 returns returns-2 returns-3 returns-4 returns-5)

@@ -2,16 +2,9 @@
 use Rattle.std.proofs.Common.{◌^◌, ◌<◌, refl, arith}
 use Rattle.wrapping_theory.specs.Columns.{shift_fits, shifted}
 use Rattle.wrapping_theory.specs.Words.{multiple_wrapped}
-use Rattle.wide_number.proofs.Wide.four_times.Statement.{statement}
-use Rattle.wide_number.proofs.Wide.four_times.Tie as tie
+use Rattle.wide_number.proofs.Wide.four_times.Goals as goal
 
-add-t5 : tie.Need-overflow-add-t5
-add-t5 c = let x = c.before.before.before.args.self in record { fits = shift_fits (2 ^ 64) 4 (2 ^ 62) refl (omega arith) x.low x.high (omega arith) (omega arith) }
-
-returns : tie.Need-returns
+pub returns : goal.returns
 returns c = let x = c.before.before.before.args.self in let l : x.low < 2 ^ 64 = omega arith in
     multiple_wrapped 4 {a = x.low} {b = x.high} (record { low_word_fits = l; high_word_fits = omega arith }) (record { low_word_fits = omega arith; high_word_fits = shift_fits (2 ^ 64) 4 (2 ^ 62) refl (omega arith) x.low x.high (omega arith) l })
     (shifted (2 ^ 64) 4 (2 ^ 62) refl (omega arith) x.low x.high (omega arith) l)
-
-pub four-times-spec : {M : Type 1} → statement M
-four-times-spec = tie.close (tie.spec add-t5 returns)
