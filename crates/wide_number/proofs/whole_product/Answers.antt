@@ -1,11 +1,10 @@
 -- `whole_product` meets its contract: column by column. Assumes nothing.
 use Rattle.std.proofs.Common.{ℕ, ◌+◌, ◌*◌, ◌/◌, ◌%◌, ◌^◌, ◌<◌, ◌≤◌, sym, ◌∙◌, div-add-mod', arith}
 use Rattle.wrapping_theory.specs.Columns.{halves_small, columns}
-use Rattle.wide_number.proofs.whole_product.Tie as tie
 use Rattle.wide_number.proofs.whole_product.Goals as goal
 
 -- the four products of halves are small
-module _ (s : tie.Start) where
+module _ (s : goal.Start) where
   abbrev u : ℕ
   u = s.args.u
 

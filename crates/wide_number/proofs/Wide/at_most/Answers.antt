@@ -3,11 +3,17 @@ use Rattle.std.proofs.Common.{not, sym, ap, ◌∙◌, arith}
 use Rattle.wrapping_theory.specs.Words.{AreWords}
 use Rattle.wrapping_theory.specs.Order.{less_high, more_high, less_low, at_most_not_less, not_less_at_most}
 use Rattle.wide_number.specs.Meaning.{value_of}
-use Rattle.wide_number.proofs.Wide.at_most.Tie as tie
 use Rattle.wide_number.proofs.Wide.at_most.Goals as goal
+use Rattle.wide_number.proofs.Wide.at_most.Lts as lts
+use Rattle.wide_number.proofs.Wide.at_most.Tie as tie
+use Rattle.wide_number.proofs.Wide.at_most.Reads as reads
+
+-- what is known at a place of the code
+abbrev Start : Type 0
+Start = lts.Start tie.the-claims reads.Pre reads.Post
 
 -- both numbers are two words each
-module _ (s : tie.Start) where
+module _ (s : Start) where
   mine : AreWords s.args.self.low s.args.self.high
   mine = record { low_word_fits = omega arith; high_word_fits = omega arith }
 

@@ -6,14 +6,20 @@ use Rattle.wrapping_theory.specs.Order.{less_high, more_high, less_low}
 use Rattle.wide_number.specs.Meaning.{value_of, order_of}
 use Rattle.wide_number.specs.declared.Order.{Order}
 use Rattle.wide_number.specs.declared.Order.TheVariants.{Less, Equal, Greater}
-use Rattle.wide_number.proofs.Wide.compare.Tie as tie
 use Rattle.wide_number.proofs.Wide.compare.Goals as goal
+use Rattle.wide_number.proofs.Wide.compare.Lts as lts
+use Rattle.wide_number.proofs.Wide.compare.Tie as tie
+use Rattle.wide_number.proofs.Wide.compare.Reads as reads
+
+-- what is known at a place of the code
+abbrev Start : Type 0
+Start = lts.Start tie.the-claims reads.Pre reads.Post
 
 -- the order by its two tests
 abbrev order : Bool → Bool → Order
 order a b = elim a [ true ↦ Less | false ↦ elim b [ true ↦ Greater | false ↦ Equal ] ]
 
-module _ (s : tie.Start) where
+module _ (s : Start) where
   mine : AreWords s.args.self.low s.args.self.high
   mine = record { low_word_fits = omega arith; high_word_fits = omega arith }
 
