@@ -1,9 +1,8 @@
 -- One cut at a time: first across ξ, each half across η, each quarter across ζ. What a single cut gives, that there is room for it, and how the eight
 -- children come of it.
-use Rattle.std.specs.Prelude.{◌≡◌, List, map, ℕ, zero, suc, ◌+◌, ◌*◌, ◌-◌, ◌/◌, ◌%◌, ◌^◌, ◌<◌, ◌≤◌, ℤ}
+use Rattle.std.specs.Prelude.{◌≡◌, List, map, ℕ, zero, suc, ◌+◌, ◌*◌, ◌-◌, ◌/◌, ◌%◌, ℤ}
 use Rattle.std.proofs.Math.Path.{refl}
-use Rattle.std.proofs.Common.{sym, ◌∙◌, ap, subst, suc-mul, mul-le-mul_right, arith}
-use Rattle.std.proofs.Math.Nat.{pow-succ'}
+use Rattle.std.proofs.Common.{sym, ◌∙◌, ap, subst, arith}
 use Rattle.foundation.specs.Lists.{tabulate}
 use Rattle.foundation.specs.Polynomial.{integers}
 use Rattle.foundation.specs.Words.{args}
@@ -14,7 +13,7 @@ use Rattle.expansion_theory.specs.Control.{Cuttable}
 use Rattle.verdict_theory.specs.Clear.{child_control}
 use Rattle.search_theory.specs.Meaning.{cell_of, Small, Room}
 use Rattle.search_theory.specs.Children.{half_control, small_less, cut_whole, child_room, child_cell}
-use Rattle.audit_theory.specs.Walk.{Notes, through, walk, opened, walk_opened}
+use Rattle.audit_theory.specs.Walk.{Notes, through, walk}
 
 -- 02, No. 6: "Each single cut is shown to give, in its direction, the two rows of 01's rule, kept four times larger." For any direction and either side, and for
 -- the coefficients of a cell of any level: the nine rows of the half are the nine rows of the cell, each cut.
@@ -100,15 +99,6 @@ module _ (s : Cell) (m : ℕ) (n : Notes) where
   pub over_all : over 8 ≡ through (walk m) (children s) n
   unfolding children
   over_all = refl
-
-  over_opened : (k : ℕ) → opened (over k) ≤ opened n + k * 8 ^ m
-  over_opened zero = omega arith
-  over_opened (suc k) = omega (arith, over_opened k, walk_opened m (child s k) (over k), suc-mul k (8 ^ m))
-
-  -- a word of 32 bits that has room for the cells below s has room for those below its next child
-  pub over_room : (k : ℕ) → k < 8 → opened n + 8 ^ (m + 1) < 2 ^ 32 → {now : Notes} → now ≡ over k → opened now + 8 ^ m < 2 ^ 32
-  over_room k l h e = let p : suc k ≤ 8 = omega arith in let q : m + 1 ≡ suc m = omega arith in
-      omega (arith, h, ap opened e, over_opened k, mul-le-mul_right (8 ^ m) p, suc-mul k (8 ^ m), ap (λ (j : ℕ). 8 ^ j) q ∙ pow-succ' 8 m)
 
 -- ---- the cuts left, three for each level
 -- a cell that is not of the last level has one level more than its halves and quarters have whole ones

@@ -1,12 +1,11 @@
 -- The walk over the cells below a cell, in path order: a search notes what it finds and stops where nothing is due, a survey gathers both bounds and never
 -- stops. Both are one recursion over the eight children.
-use Rattle.std.specs.Prelude.{◌≡◌, refl, Bool, true, false, not, ◌||◌, List, [], ◌∷◌, ℕ, zero, suc, ◌+◌, ◌^◌, ◌≤◌}
-use Rattle.std.proofs.Common.{sym, ◌∙◌, ap, arith}
+use Rattle.std.specs.Prelude.{◌≡◌, refl, Bool, true, false, not, ◌||◌, List, [], ◌∷◌, ℕ, zero, suc}
+use Rattle.std.proofs.Common.{sym, ◌∙◌, ap}
 use Rattle.definitions.specs.Subdivision.{Cell, children}
 use Rattle.definitions.specs.Verdict.{blocked}
 use Rattle.verdict_theory.specs.Search.{Pass, ended, open_cell, open_all, visit}
 use Rattle.verdict_theory.specs.Extremes.{Extremes, with, with_all, extremes}
-use Rattle.search_theory.specs.Visit.{visit_count}
 
 -- what a walk has noted: a search what it found and how many cells it opened, a survey the least coefficient and the least corner
 pub data Notes : Type 0 where
@@ -62,10 +61,6 @@ walk_surveyed (suc m) s e = through_surveyed m (walk_surveyed m) (children s) e
 abbrev pub opened : Notes → ℕ
 opened (sought p) = p.count
 opened (surveyed e) = 0
-
-pub walk_opened : (m : ℕ) (s : Cell) (n : Notes) → opened (walk m s n) ≤ opened n + 8 ^ m
-walk_opened m s (sought p) = let h = visit_count m s p in omega (arith, h, ap opened (walk_sought m s p))
-walk_opened m s (surveyed e) = omega (arith, ap opened (walk_surveyed m s e))
 
 -- ---- the branches
 pub walk_last : (m : ℕ) (s : Cell) (n : Notes) → m ≡ 0 → noted s n ≡ walk m s n

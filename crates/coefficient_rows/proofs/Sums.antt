@@ -8,7 +8,8 @@ use lib.Dec.{lit≤, lit<}
 use lib.ListN.{get_or}
 use lib.IntN.{ℤ, pos, nat_abs, ◌+ℤ◌, ◌*ℤ◌}
 use mir.Syntax.{w64}
-use mir.Val.{SFits, to_z, of_z}
+use mir.Val.{SFits, Fits, to_z, of_z}
+use mir.ValLaws.{to_z-of_z, of_z-to_z}
 use Rattle.foundation.specs.Lists.{tabulate, up}
 use Rattle.foundation.specs.Magnitude.{magnitude_mul}
 use Rattle.foundation.specs.Polynomial.{integers}
@@ -29,6 +30,14 @@ none_left columns values vs end = subst (λ (m : ℕ). let es = tabulate (entry_
   where
     none : 0 ≡ end - end
     none = omega arith
+
+-- the same of the bits, where the sum is the number that they stand for
+pub summed_bits : (columns : List ℕ) (values vs : List ℤ) (k end : ℕ) {bits : ℕ} {sum : ℤ} → Fits w64 bits → to_z w64 bits ≡ sum → Summed columns values vs (of_z w64 sum) k end → Summed columns values vs bits k end
+summed_bits columns values vs k end {bits} f e r = subst (λ b. Summed columns values vs b k end) (sym (ap (of_z w64) e) ∙ of_z-to_z w64 bits f) r
+
+-- and of the number of a sum that fits
+pub summed_number : (columns : List ℕ) (values vs : List ℤ) (k end : ℕ) (sum : ℤ) → SFits w64 sum → Summed columns values vs (of_z w64 sum) k end → Summed columns values vs (of_z w64 (to_z w64 (of_z w64 sum))) k end
+summed_number columns values vs k end sum f r = subst (λ b. Summed columns values vs b k end) (ap (of_z w64) (sym (to_z-of_z w64 sum f))) r
 
 -- the entries from number k on, and those from the next one on
 entries_next : (columns : List ℕ) (values : List ℤ) (k end : ℕ) → k < end → entries columns values k end ≡ entry_at columns values k ∷ entries columns values (suc k) end

@@ -1,5 +1,5 @@
 -- Document 01: "Bounds for eight points at depth D", both times 8 · 64^D.
-use Rattle.std.specs.Prelude.{List, [], ◌∷◌, map, ℕ, suc, ◌^◌, ℤ}
+use Rattle.std.specs.Prelude.{List, map, ℕ, suc, ◌^◌, ℤ}
 use Rattle.foundation.specs.Lists.{concat_map, tabulate}
 use Rattle.foundation.specs.Least.{least_of}
 use Rattle.definitions.specs.Jacobian.{scaled_jacobian}

@@ -1,5 +1,5 @@
 -- Document 01, "The 27 coefficients": the numbering, the twenty volumes, the table.
-use Rattle.std.specs.Prelude.{List, [], ◌∷◌, ◌++◌, map, ℕ, zero, suc, ◌+◌, ◌*◌, ◌-◌, ◌/◌, get_or, length, take, drop, ℤ, pos, negsuc}
+use Rattle.std.specs.Prelude.{List, [], ◌∷◌, ◌++◌, map, ℕ, ◌+◌, ◌*◌, ◌-◌, ◌/◌, get_or, length, take, drop, ℤ, pos, negsuc}
 use Rattle.foundation.specs.Polynomial.{Arithmetic, integers}
 use Rattle.foundation.specs.Lists.{tabulate, sum}
 use Rattle.definitions.specs.Jacobian.{side, Nodes, nodes_of, det}

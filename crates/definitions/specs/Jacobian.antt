@@ -1,6 +1,6 @@
 -- Document 01, "The determinant". Directions ξ, η, ζ and axes x, y, z are 0, 1, 2; corner k is the one that the documents number k + 1.
 -- Formulas are written once over operations: at `integers` they are the definition, at `expressions` the computed tests use them.
-use Rattle.std.specs.Prelude.{List, [], ◌∷◌, Bool, true, false, ℕ, zero, suc, ◌+◌, ◌*◌, ◌-◌, ◌^◌, eqb, get_or, ℤ, pos, negsuc, ◌*ℤ◌}
+use Rattle.std.specs.Prelude.{List, [], ◌∷◌, true, false, ℕ, zero, suc, ◌+◌, ◌*◌, ◌-◌, ◌^◌, eqb, get_or, ℤ, pos, negsuc, ◌*ℤ◌}
 use Rattle.foundation.specs.Polynomial.{Arithmetic, integers}
 
 -- "Corners 1 to 8 stand at (0,0,0), (1,0,0), (1,1,0), (0,1,0), (0,0,1), (1,0,1), (1,1,1), (0,1,1)."

@@ -1,6 +1,6 @@
 -- Cutting combines: each number of a half is a sum of numbers of the whole with weights that are at least 0 and add up to 4, to 64 for a child.
 -- So a cut keeps whatever sums and multiples keep.
-use Rattle.std.specs.Prelude.{◌≡◌, List, ℕ, zero, suc, ◌+◌, ◌*◌, ℤ, pos, ◌+ℤ◌, ◌*ℤ◌}
+use Rattle.std.specs.Prelude.{List, ℕ, zero, suc, ◌+◌, ◌*◌, ℤ, pos, ◌+ℤ◌, ◌*ℤ◌}
 use Rattle.std.proofs.Common.{subst, arith}
 use Rattle.foundation.specs.Polynomial.{integers}
 use Rattle.foundation.specs.Lists.{All}

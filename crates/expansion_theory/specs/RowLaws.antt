@@ -1,5 +1,5 @@
 -- Where the coefficients stand in the rows; a coefficient of a half by its row; and a half put together row by row.
-use Rattle.std.specs.Prelude.{◌≡◌, refl, List, [], ◌∷◌, ℕ, zero, suc, ◌+◌, ◌*◌, ◌-◌, ◌/◌, ◌%◌, ◌<◌, ◌≤◌, T, eqb, get_or, set, length, ℤ, pos}
+use Rattle.std.specs.Prelude.{◌≡◌, refl, List, [], ◌∷◌, ℕ, zero, suc, ◌+◌, ◌*◌, ◌/◌, ◌%◌, ◌<◌, ◌≤◌, T, eqb, get_or, set, length, ℤ, pos}
 use Rattle.std.proofs.Common.{sym, ◌∙◌, ap, subst, arith, length-set, ext_get_or, get_or-set_same, get_or-set_other}
 use Rattle.std.proofs.Math.Decide.{ℕ_discrete}
 use Rattle.foundation.specs.Lists.{get_d_image, all_below, equal_below}

@@ -7,7 +7,7 @@ use Rattle.definitions.specs.Jacobian.{jacobian}
 use Rattle.definitions.specs.Bounds.{low, high}
 use Rattle.definitions.specs.Record.{record_of, kind_word}
 use Rattle.definitions.specs.Mesh.{refusal, points_of, out_of_range, fault_of, report_after, bounds, bounds_of}
-use Rattle.verdict_theory.specs.DepthMonotone.{depth_monotone}
+use Rattle.verdict_theory.proofs.DepthMonotone.{depth_monotone}
 use Rattle.verdict_theory.specs.Elements.{element_points, report_length}
 use Rattle.mesh_checks.specs.Refusals.{accepted_mesh}
 use Rattle.mesh_elements.specs.Elements.{whole_element}

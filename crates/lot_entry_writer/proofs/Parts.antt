@@ -1,7 +1,7 @@
 -- The bytes of numbers from a place of their run on: the next ones, and what is left after them; and an entry from its parts. Assumes nothing.
 use mathlib.Core.Path.{◌≡◌, sym, ◌∙◌, ap}
 use mathlib.Core.List.{List, [], ◌++◌, append_assoc}
-use Prim.Native.Nat.{ℕ, ◌+◌, ◌-◌, ◌<◌, ◌≤◌}
+use Prim.Native.Nat.{ℕ, ◌+◌, ◌<◌, ◌≤◌}
 use lib.ListN.{get_or, length, drop, drop_of_length-le}
 use lib.IntN.{ℤ, pos}
 use Rattle.foundation.specs.Lists.{drop_next}

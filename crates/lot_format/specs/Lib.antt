@@ -13,10 +13,5 @@ pub mod Joined
 pub mod Steps
 pub mod Numbered
 pub mod Entries
-pub mod Through
-pub mod Reached
 pub mod Enough
 pub mod Lawful
-pub mod Front
-pub mod Between
-pub mod Accepted

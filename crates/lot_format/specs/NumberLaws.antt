@@ -1,5 +1,5 @@
 -- Bytes and the numbers that they stand for: each is had from the other.
-use Rattle.std.specs.Prelude.{◌≡◌, refl, Bool, true, false, List, [], ◌∷◌, ◌++◌, map, ℕ, zero, suc, ◌+◌, ◌-◌, ◌*◌, ◌/◌, ◌%◌, ◌^◌, ◌<◌, ◌≤◌, ltb, get_or, length, take, drop, ℤ, pos, negsuc}
+use Rattle.std.specs.Prelude.{◌≡◌, refl, Bool, true, false, List, [], ◌∷◌, ◌++◌, map, ℕ, zero, suc, ◌+◌, ◌-◌, ◌*◌, ◌/◌, ◌%◌, ◌^◌, ◌<◌, ◌≤◌, ltb, get_or, length, take, drop, pos, negsuc}
 use Rattle.std.proofs.Common.{sym, ◌∙◌, ap, ap₂, pow-suc, arith, length-take, length-drop, take-append-drop, length-take-le, drop-cons, ltb-true, ltb-false}
 use Rattle.std.specs.Int.Signed.{mag}
 use Rattle.foundation.specs.Lists.{All, all_left, all_right, all_map, all_image, get_d_all}

@@ -15,8 +15,8 @@ use Rattle.lot_format.specs.Runs.{Runs, names_of, lengths_of, offsets_of, runs_o
 use Rattle.lot_format.specs.Reading.{whole_entry, entry_of, contents, joined, has_ended, read_lot, lot_of}
 use Rattle.lot_format.specs.Joined.{names_append, lengths_append, offsets_append}
 use Rattle.lot_format.specs.Entries.{whole_is}
-use Rattle.lot_format.specs.Reached.{Next, Grows, reached_next, reached_grows, reached_all}
-use Rattle.lot_format.specs.Accepted.{accepted_short}
+use Rattle.lot_format.proofs.Reached.{Next, Grows, reached_next, reached_grows, reached_all}
+use Rattle.lot_format.proofs.Accepted.{accepted_short}
 use Rattle.lot_scan.specs.declared.Counts.{Counts}
 use Rattle.lot_scan.specs.Meaning.{no_counts, counted_of, Small}
 use Rattle.lot_entry_hand_out.specs.Meaning.{Fitting}

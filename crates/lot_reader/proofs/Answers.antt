@@ -9,7 +9,7 @@ use Rattle.lot_format.specs.Numbers.{Byte}
 use Rattle.lot_format.specs.Format.{lot_file, Lot}
 use Rattle.lot_format.specs.Runs.{runs_of}
 use Rattle.lot_format.specs.Reading.{readable, read_lot, Room as FileRoom, reading, lot_of, handed_out, label_place, reading_number, reading_numbers}
-use Rattle.lot_format.specs.Accepted.{accepted_label, accepted_label_fits, reading_accepted, Fits, room_fits}
+use Rattle.lot_format.proofs.Accepted.{accepted_label, accepted_label_fits, reading_accepted, Fits, room_fits}
 use Rattle.lot_scan.specs.declared.Counts.{Counts}
 use Rattle.lot_scan.specs.declared.Scan.TheVariants.{Counted}
 use Rattle.lot_scan.specs.Meaning.{scan_held, scan_of, IsAccepted}

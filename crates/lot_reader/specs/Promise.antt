@@ -13,7 +13,7 @@ use Rattle.lot_format.specs.Runs.{Runs, runs_of, lot_from}
 use Rattle.lot_format.specs.Reading.{Reading, readable, read_lot, read_into, lot_of, handed_out, reading_numbers}
 use Rattle.lot_format.specs.RunLaws.{lot_back, same_runs}
 use Rattle.lot_format.specs.Numbered.{zero_accepted}
-use Rattle.lot_format.specs.Accepted.{reading_accepted, accepted_lawful, accepted_written}
+use Rattle.lot_format.proofs.Accepted.{reading_accepted, accepted_lawful, accepted_written}
 
 -- the reading into lent runs; a label is not lent
 abbrev pub read_over : List ℕ → Runs → Reading

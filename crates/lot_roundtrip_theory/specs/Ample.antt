@@ -9,7 +9,7 @@ use Rattle.lot_format.specs.Runs.{names_of, lengths_of, offsets_of, runs_of}
 use Rattle.lot_format.specs.Reading.{Reading, readable, unreadable, read_lot, Room, room_for, reading}
 use Rattle.lot_format.specs.Steps.{reading_refused, reading_fits}
 use Rattle.lot_format.specs.Lawful.{Lawful}
-use Rattle.lot_format.specs.Accepted.{accepted_short, accepted_lawful, accepted_written}
+use Rattle.lot_format.proofs.Accepted.{accepted_short, accepted_lawful, accepted_written}
 use Rattle.lot_roundtrip_theory.specs.Lengths.{written_length, length_written}
 
 abbrev pub ample : Room

@@ -1,5 +1,5 @@
 -- What the writer takes, the namer takes: each element of runs that can be written is named, and so is each of a lot that reads without fault, as the slip names it.
-use Rattle.std.specs.Prelude.{◌≡◌, List, ℕ, ◌/◌, ◌<◌, ◌≤◌, length}
+use Rattle.std.specs.Prelude.{◌≡◌, List, ℕ, ◌/◌, ◌<◌, length}
 use Rattle.std.proofs.Common.{◌∙◌, ap, arith}
 use Rattle.std.proofs.Math.Bool.{true}
 use borrow.Author.Tests.{lt-ltb, le-leb, eq-eqb}
@@ -11,7 +11,7 @@ use Rattle.lot_format.specs.Groups.{fit_together, short_names, clean_names}
 use Rattle.lot_format.specs.Naming.{name_of, Naming, named, naming}
 use Rattle.lot_format.specs.Reading.{readable, read_lot}
 use Rattle.lot_format.specs.RunLaws.{groups_back}
-use Rattle.lot_format.specs.Accepted.{accepted_short, accepted_lawful, accepted_written}
+use Rattle.lot_format.proofs.Accepted.{accepted_short, accepted_lawful, accepted_written}
 use Rattle.lot_roundtrip_theory.specs.Tests.{both_true, Writable}
 use Rattle.lot_roundtrip_theory.specs.RunsLawful.{lawful_writable}
 

@@ -8,7 +8,7 @@ use Rattle.lot_format.specs.Runs.{Runs, runs_of, lot_from}
 use Rattle.lot_format.specs.Reading.{readable, read_lot}
 use Rattle.lot_format.specs.Writing.{file, writing}
 use Rattle.lot_format.specs.RunLaws.{lot_back}
-use Rattle.lot_format.specs.Accepted.{accepted_short, accepted_lawful, accepted_written}
+use Rattle.lot_format.proofs.Accepted.{accepted_short, accepted_lawful, accepted_written}
 use Rattle.lot_roundtrip_theory.specs.LotBack.{written_back}
 use Rattle.lot_roundtrip_theory.specs.Tests.{written_writable, writable_written}
 use Rattle.lot_roundtrip_theory.specs.RunsLawful.{Numbers32, writable_lawful, writable_back, lawful_writable}

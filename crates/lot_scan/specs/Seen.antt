@@ -7,7 +7,7 @@ use Rattle.lot_format.specs.Format.{lot_file, Lot, Mark, LB, ND, HX, GR, EN, Sta
 use Rattle.lot_format.specs.Reading.{Unreadable, out_of_place, faulty_entry, whole_entry, entry_of, joined, taken, unreadable, has_ended, no_lot, read_lot}
 use Rattle.lot_format.specs.Runs.{names_of}
 use Rattle.lot_format.specs.Joined.{names_append}
-use Rattle.lot_format.specs.Reached.{Reached, reached_start, reached_faulty, reached_whole, reached_more, reached_end}
+use Rattle.lot_format.proofs.Reached.{Reached, reached_start, reached_faulty, reached_whole, reached_more, reached_end}
 use Rattle.lot_scan.specs.declared.Counts.{Counts}
 use Rattle.lot_scan.specs.Meaning.{no_counts, counted_of, Small, holds, scan_of}
 

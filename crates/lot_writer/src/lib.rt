@@ -3,7 +3,6 @@
 // All is tested first, in the order of the definitions' `tests`; then the file is written entry by entry.
 #![tactic(auto)]
 
-
 ghost use Rattle.std.specs.Prelude.{◌≡◌, length};
 ghost use Rattle.foundation.specs.Laid.{laid_over};
 ghost use Rattle.lot_format.specs.Format.{lot_file, written};

@@ -2,16 +2,19 @@
 // long. An input that cannot be read to its end prints "unreadable"; a read that a signal interrupts is tried again.
 #![tactic(auto)]
 
-ghost use Rattle.std.specs.Prelude.{length};
+ghost use Rattle.std.specs.Prelude.{◌≤◌, length, IfSome};
 ghost use Rattle.print_slip.specs.Input.{Some, Within};
 
-use libc::{EINTR, STDIN_FILENO, STDOUT_FILENO};
+use std::io::{ErrorKind, Read};
+
+// Standard output.
+const STDOUT: i32 = 1;
 
 // How often a read is tried. One that signals interrupt so often in a row, without a byte, is taken for a failure.
 const MAX_TRIES: u32 = 1000000000;
 
 // What one read finds: it failed, the input is over, or so many bytes more.
-#[derive(Drop)]
+#[derive(Clone, Copy)]
 enum Chunk {
     Failed,
     Over,
@@ -19,51 +22,54 @@ enum Chunk {
 }
 
 // The input: not to be read, or so many bytes.
-#[derive(Drop)]
+#[derive(Clone, Copy)]
 enum Input {
     Unreadable,
     Whole(usize),
 }
 
-// Reads, again where a signal interrupts it, and puts what comes at the start of the buffer. How many bytes came, or a negative number
-// where the read failed.
-fn read_through(buffer: &mut [u8]) -> isize {
-    let mut tries = MAX_TRIES;
-    while 0 < tries {
-        let got = libc::read(STDIN_FILENO, buffer);
-        if 0 <= got {
-            return got;
+// Reads, again where a signal interrupts it, and puts what comes at the start of the buffer. How many bytes came, or nothing where the
+// read failed.
+fn read_through<R: Read>(input: &mut R, buffer: &mut [u8]) -> Option<usize>
+    ensures { IfSome result (λ n. n ≤ length buffer.old) }
+{
+    for _ in 0..MAX_TRIES {
+        match input.read(buffer) {
+            Ok(n) => {
+                return Some(n);
+            }
+            Err(e) => {
+                if e.kind() != ErrorKind::Interrupted {
+                    return None;
+                }
+            }
         }
-        if os::errno() != EINTR {
-            return got;
-        }
-        tries -= 1;
     }
-    -1
+    None
 }
 
 // What one read finds; what comes is put at the start of the buffer.
-fn read_some(buffer: &mut [u8]) -> Chunk
+fn read_some<R: Read>(input: &mut R, buffer: &mut [u8]) -> Chunk
     ensures { Some (length buffer.old) result }
 {
-    let got = read_through(buffer);
-    if got < 0 {
-        return Chunk::Failed;
+    match read_through(input, buffer) {
+        None => Chunk::Failed,
+        Some(n) => {
+            if n == 0 {
+                return Chunk::Over;
+            }
+            Chunk::More(n)
+        }
     }
-    let n = io::count(got, buffer);
-    if n == 0 {
-        return Chunk::Over;
-    }
-    Chunk::More(n)
 }
 
 // Reads until the input is over or the buffer is full.
-fn read_input(buffer: &mut [u8]) -> Input
+fn read_input<R: Read>(input: &mut R, buffer: &mut [u8]) -> Input
     ensures { Within (length buffer.old) result }
 {
     let mut n = 0;
     while n < buffer.len() {
-        let chunk = read_some(&mut buffer[n..]);
+        let chunk = read_some(input, &mut buffer[n..]);
         match chunk {
             Chunk::Failed => {
                 return Input::Unreadable;
@@ -83,15 +89,16 @@ fn read_input(buffer: &mut [u8]) -> Input
 fn print(file: &[u8]) {
     let mut out = [0u8; limits::SLIP_BYTES];
     let n = slip_writer::write(file, &mut out);
-    io::write_all(STDOUT_FILENO, &out[..n]);
+    io::write_all(STDOUT, &out[..n]);
 }
 
-fn main() {
+fn main(rt: HostRuntime) {
     let mut buffer = [0u8; limits::MAX_BYTES + 1];
-    let input = read_input(&mut buffer);
+    let mut stdin = rt.stdin();
+    let input = read_input(&mut stdin, &mut buffer);
     match input {
         Input::Unreadable => {
-            io::write_all(STDOUT_FILENO, b"unreadable\n");
+            io::write_all(STDOUT, b"unreadable\n");
         }
         Input::Whole(n) => print(&buffer[..n]),
     }

@@ -1,5 +1,5 @@
 -- Pass after pass as the code makes them: the pass of a level, what it comes to, and what holds between passes.
-use Rattle.std.specs.Prelude.{◌≡◌, refl, Bool, true, false, List, ℕ, suc, ◌+◌, ◌*◌, ◌^◌, ◌<◌, ◌≤◌, length, ℤ, nat_abs}
+use Rattle.std.specs.Prelude.{◌≡◌, refl, true, List, ℕ, suc, ◌+◌, ◌*◌, ◌^◌, ◌<◌, ◌≤◌, length, ℤ, nat_abs}
 use Rattle.std.proofs.Common.{sym, ◌∙◌, ap, subst, true≢false, zero-le, le_trans, mul-le-mul_left, zero-lt-suc, arith}
 use Rattle.std.proofs.Math.Nat.{pow-le-pow_right}
 use Rattle.foundation.specs.Lists.{All, all_map, up}
@@ -9,7 +9,7 @@ use Rattle.definitions.specs.Subdivision.{Cell, whole, cells}
 use Rattle.expansion_theory.specs.Size.{cells_size}
 use Rattle.verdict_theory.specs.Named.{Names, named_value}
 use Rattle.definitions.specs.Verdict.{Verdict, valid, invalid, undecided, verdict, opened}
-use Rattle.verdict_theory.specs.Search.{Found, nothing, coefficient, point, Pass, pass, visit}
+use Rattle.verdict_theory.specs.Search.{Found, nothing, coefficient, point, Pass, visit}
 use Rattle.verdict_theory.specs.Opened.{most}
 use Rattle.verdict_theory.specs.Passes.{Before, before_first, pass_point, pass_nothing, pass_last, pass_on}
 use Rattle.search_theory.specs.Meaning.{cell_of, lowest, Small, count_room, Grid, Room, Held}

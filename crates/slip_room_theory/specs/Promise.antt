@@ -14,9 +14,9 @@ use Rattle.lot_format.specs.Numbers.{Byte}
 use Rattle.lot_format.specs.Format.{lot_file, Group, Lot}
 use Rattle.lot_format.specs.Reading.{Unreadable, unreadable_number, too_long, cut_short, unknown_mark, wrong_length, out_of_place, bad_byte, too_many_elements, no_room, Reading, readable, unreadable, read_lot}
 use Rattle.lot_format.specs.Lawful.{Lawful, LawfulName}
-use Rattle.lot_format.specs.Accepted.{accepted_lawful}
+use Rattle.lot_format.proofs.Accepted.{accepted_lawful}
 use Rattle.slip_format.specs.Slip.{slip_limits, slip_bytes, refused_line, inspected_slip, mesh_slip, slip_if, lot_slip, slip_of}
-use Rattle.slip_format.specs.Room.{Short, Counted, refused_length, inspected_length}
+use Rattle.slip_format.proofs.Room.{Short, Counted, refused_length, inspected_length}
 use Rattle.slip_room_theory.specs.Words.{report_held}
 
 mesh_number : (r : MeshRefusal) → mesh_refusal_number r < 2 ^ 32

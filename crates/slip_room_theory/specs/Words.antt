@@ -21,7 +21,7 @@ use Rattle.mesh_points.specs.Search.{first_below}
 use Rattle.mesh_indices.specs.Pairs.{twice_below}
 use Rattle.mesh_indices.specs.Missing.{missing_below}
 use Rattle.mesh_elements.specs.Elements.{fault_missing, fault_twice, fault_outside, fault_none}
-use Rattle.slip_format.specs.Room.{Held}
+use Rattle.slip_format.proofs.Room.{Held}
 
 -- the words of any value
 value_held_law : (z : ℤ) → Held (to_z w64 (low_word z)) × Held (to_z w64 (high_word z))

@@ -1,7 +1,7 @@
 -- Promise 3 of docs/TRUST.md, whole: a closer look never takes back what was sold.
-use Rattle.std.specs.Prelude.{◌≡◌, List, ◌⊎◌, ℕ, ◌+◌, ◌-◌, ◌≤◌, ◌^◌, ℤ, nat_abs, ◌*ℤ◌, ◌≤ℤ◌, ◌<ℤ◌}
+use Rattle.std.specs.Prelude.{◌≡◌, List, ◌⊎◌, ℕ, ◌-◌, ◌≤◌, ◌^◌, ℤ, nat_abs, ◌*ℤ◌, ◌≤ℤ◌, ◌<ℤ◌}
 use Rattle.std.proofs.Math.Path.{refl, ap}
-use Rattle.std.proofs.Common.{sym, ◌∙◌, subst, inl, inr, arith}
+use Rattle.std.proofs.Common.{sym, ◌∙◌, inl, inr, arith}
 use Rattle.std.proofs.Math.Decide.{dec_le}
 use Rattle.std.proofs.Math.IntN.{pos}
 use Rattle.foundation.specs.Order.{Positive, positive_lt, positive_unscale}
@@ -11,7 +11,6 @@ use Rattle.definitions.specs.Bounds.{low, high}
 use Rattle.definitions.specs.Record.{kind, verdict_words, record_of, kind_word}
 use Rattle.verdict_theory.specs.Positive.{PositiveLevel, level_next, positive_points}
 use Rattle.verdict_theory.specs.Points.{AtPoints, positive_down}
-use Rattle.verdict_theory.specs.Bounds.{low_rises, high_falls}
 use Rattle.verdict_theory.specs.Meaning.{clear_grid}
 use Rattle.verdict_theory.specs.Stable.{Way, is_invalid, is_valid, is_undecided, way, invalid_same, valid_same, invalid_verdict, undecided_verdict}
 
@@ -65,16 +64,3 @@ pub record DepthMonotone (xs : List ℤ) (D D' : ℕ) : Type 0 where
   pub high_bound : high xs D' ≤ℤ (pos (64 ^ (D' - D)) *ℤ high xs D)
   -- "a valid record means that the determinant is positive at every dyadic point, of whatever power of two"
   pub positive : (kind_word (record_of xs D) ≡ pos 0) ⊎ (kind_word (record_of xs D') ≡ pos 0) → (M a b c : ℕ) → a ≤ 2 ^ M → b ≤ 2 ^ M → c ≤ 2 ^ M → pos 0 <ℤ jacobian xs M a b c
-
--- It holds of any coordinates and any depths, whatever the limits.
-pub depth_monotone : (xs : List ℤ) (D D' : ℕ) → D ≤ D' → DepthMonotone xs D D'
-depth_monotone xs D D' l = let e : D' - D + D ≡ D' = omega arith in record {
-  same = settled_same xs D D' l;
-  low_bound = subst (λ (n : ℕ). (pos (64 ^ (D' - D)) *ℤ low xs D) ≤ℤ low xs n) e (low_rises xs D (D' - D));
-  high_bound = subst (λ (n : ℕ). high xs n ≤ℤ (pos (64 ^ (D' - D)) *ℤ high xs D)) e (high_falls xs D (D' - D));
-  positive = λ h. either h;
-}
-  where
-    either : (kind_word (record_of xs D) ≡ pos 0) ⊎ (kind_word (record_of xs D') ≡ pos 0) → (M a b c : ℕ) → a ≤ 2 ^ M → b ≤ 2 ^ M → c ≤ 2 ^ M → pos 0 <ℤ jacobian xs M a b c
-    either (inl h) = valid_everywhere xs D h
-    either (inr h) = valid_everywhere xs D' h

@@ -14,7 +14,7 @@ use Rattle.verdict_theory.specs.Findings.{some_not_none, low_none, none_low, Fir
 use Rattle.verdict_theory.specs.Levels.{level_le, level_before, level_holds, level_unique}
 use Rattle.verdict_theory.specs.Positive.{PositiveLevel, clear_positive, positive_clear, positive_points, coefficient_of, corners_of_law}
 use Rattle.verdict_theory.specs.Points.{points_of, corners_at, positive_down, side_small}
-use Rattle.verdict_theory.specs.Stable.{has_point, is_clear, not_found, Way, is_invalid, is_valid, is_undecided, way, Valid, Invalid, Undecided, invalid_verdict, valid_verdict, undecided_verdict}
+use Rattle.verdict_theory.specs.Stable.{has_point, is_clear, not_found, Way, is_invalid, is_valid, is_undecided, way, invalid_verdict, valid_verdict, undecided_verdict}
 
 module _ (xs : List ℤ) where
   -- J is above 0 at every grid point of level m

@@ -1,5 +1,5 @@
 -- Cells whose 27 coefficients are above 0, and levels of such cells: nothing low is found in them, nor below them.
-use Rattle.std.specs.Prelude.{◌≡◌, true, List, ℕ, zero, suc, ◌+◌, ◌<◌, ◌≤◌, get_or, length, ℤ, pos, ◌≤ℤ◌}
+use Rattle.std.specs.Prelude.{◌≡◌, List, ℕ, zero, suc, ◌+◌, ◌<◌, ◌≤◌, get_or, length, ℤ, pos, ◌≤ℤ◌}
 use Rattle.std.proofs.Common.{subst, arith}
 use Rattle.std.proofs.Math.Option.{none}
 use Rattle.std.specs.Int.Signed.{le_z_yes}

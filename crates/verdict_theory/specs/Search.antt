@@ -3,12 +3,12 @@ use Rattle.std.specs.Prelude.{◌≡◌, refl, Bool, true, false, List, [], ◌�
 use Rattle.std.proofs.Common.{sym, ◌∙◌, ap₂, arith}
 use Rattle.std.proofs.Math.Path.{ap}
 use Rattle.std.proofs.Math.Option.{Option, none, some}
-use Prim.Native.Nat.{ℕ, zero, suc, ◌+◌, ◌≤◌}
+use Prim.Native.Nat.{ℕ, zero, suc, ◌+◌}
 use Rattle.std.proofs.Math.ListN.{get_or}
 use Rattle.foundation.specs.Lists.{All, all_map, concat_map, tabulate, tabulate_cong, all_tabulate}
 use Rattle.definitions.specs.Jacobian.{side, scaled_jacobian}
 use Rattle.definitions.specs.Subdivision.{Cell, children, whole, descend, cells}
-use Rattle.definitions.specs.Verdict.{Finding, corners_of, coefficients_of, first_low, found, low_point, low_coefficient, blocked, opened_below, opened_at, opened}
+use Rattle.definitions.specs.Verdict.{Finding, corners_of, coefficients_of, first_low, found, low_point, low_coefficient, blocked, opened_below, opened_at}
 use Rattle.expansion_theory.specs.Cells.{CellOf, all_cells, corner_is}
 use Rattle.expansion_theory.specs.Hull.{above_get_d}
 use Rattle.verdict_theory.specs.Count.{up_to, count_at}

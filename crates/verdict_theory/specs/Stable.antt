@@ -6,7 +6,7 @@ use Rattle.std.proofs.Math.Bool.{true, false, not}
 use Rattle.std.proofs.Math.Option.{Option, none, some}
 use Rattle.std.proofs.Math.Decide.{dec_le}
 use Rattle.foundation.specs.Lists.{All, all_map, all_concat, concat_all, concat_map, up}
-use Rattle.definitions.specs.Subdivision.{Cell, children, whole, descend, cells}
+use Rattle.definitions.specs.Subdivision.{Cell, children, whole, descend}
 use Rattle.definitions.specs.Verdict.{Finding, first_low, found, coefficients_of, low_point, low_coefficient, least_level, last_level, valid_level, valid, invalid, undecided, decide, verdict, blocked, opened_below, opened_at, opened, corners_of}
 use Rattle.definitions.specs.Record.{verdict_words, record_of}
 use Rattle.verdict_theory.specs.Count.{up_to, count_to, opened_count, opened_at_law}

@@ -1,6 +1,5 @@
 -- `narrow_least::number` meets its contract: before each turn no coefficient passed is as low as the least. Assumes nothing.
 use mathlib.Core.Path.{sym, ap₂, ◌∙◌}
-use Prim.Native.Nat.{◌-◌}
 use native.Mathlib.Omega.{arith}
 use lib.ListN.{get_or}
 use lib.IntN.{pos}

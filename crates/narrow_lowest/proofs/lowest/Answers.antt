@@ -1,6 +1,5 @@
 -- `narrow_lowest::lowest` meets its contract: before each turn no coefficient passed is low. Assumes nothing.
 use mathlib.Core.Path.{sym, ap, ◌∙◌}
-use Prim.Native.Nat.{◌-◌}
 use native.Mathlib.Omega.{arith}
 use lib.ListN.{get_or}
 use lib.IntN.{ℤ, pos}

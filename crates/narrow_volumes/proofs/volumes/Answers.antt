@@ -60,7 +60,7 @@ returns c =
     corner_read xs 5 c6.at_corner-6.type_inv c6.at_corner-6.ensures i ∷
     corner_read xs 6 c7.at_corner-7.type_inv c7.at_corner-7.ensures i ∷
     corner_read xs 7 c8.at_corner-8.type_inv c8.at_corner-8.ensures i ∷
-    middle_read xs 0 c9.at_Edge.type_inv c9.at_Edge.ensures i ∷
+    middle_read xs 0 c9.at_edge.type_inv c9.at_edge.ensures i ∷
     middle_read xs 1 c10.at_edge-2.type_inv c10.at_edge-2.ensures i ∷
     middle_read xs 2 c11.at_edge-3.type_inv c11.at_edge-3.ensures i ∷
     middle_read xs 3 c12.at_edge-4.type_inv c12.at_edge-4.ensures i ∷

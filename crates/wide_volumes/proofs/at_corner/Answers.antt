@@ -58,7 +58,7 @@ module _ (c : After-edge-9) where
   to_d = edge_held entry-3.requires.begun.range middle_limit tt (lit≤ tt) entry-3.args.a entry-3.args.d c.edge-7.ensures c.edge-8.ensures c.edge-9.ensures
 
 place_inside : (c : After-edge-9) → (entry-3 c).args.k < 20
-place_inside c = omega (arith, (entry-3 c).requires.1.0.0)
+place_inside c = omega (arith, (entry-3 c).requires.node_2.0)
 
 pub returns : goal.returns
 returns c = let w = c.before.before.before in let v = w.before.before.before in let u = v.before.before.before in let s = entry-3 w in let x = nodes_of s.args.p.now in

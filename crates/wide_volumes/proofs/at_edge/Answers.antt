@@ -60,7 +60,7 @@ module _ (c : After-middle-6) where
   to_ef = middle_held entry-3.requires.begun.range middle_limit tt (lit≤ tt) entry-3.args.a entry-3.args.e entry-3.args.f c.middle-4.ensures c.middle-5.ensures c.middle-6.ensures
 
 place_inside : (c : After-middle-6) → (entry-3 c).args.k < 20
-place_inside c = (entry-3 c).requires.1.0.1
+place_inside c = (entry-3 c).requires.node_2.1
 
 pub put_digits-requires : goal.put_digits-requires
 put_digits-requires c = let w = c.before.before in let v = w.before.before.before in

@@ -55,7 +55,7 @@ pub determinant-lower-requires : goal.determinant-lower-requires
 determinant-lower-requires c = let s = c.before in record { sort = shorter; first = vector_within (lowers s); second = vector_within (second s); third = vector_within (third s) }
 
 pub returns : goal.returns
-returns c = let s = c.before.before in (
-  ap (set s.args.high.now s.args.k) (read_back c.determinant-upper.type_inv (det_read (λ x. x) (uppers s) (second s) (third s) c.determinant-upper.ensures)),
-  ap (set s.args.low.now s.args.k) (read_back c.determinant-lower.type_inv (det_read (λ x. x) (lowers s) (second s) (third s) c.determinant-lower.ensures)),
-)
+returns c = let s = c.before.before in record {
+  high_after = ap (set s.args.high.now s.args.k) (read_back c.determinant-upper.type_inv (det_read (λ x. x) (uppers s) (second s) (third s) c.determinant-upper.ensures));
+  low_after = ap (set s.args.low.now s.args.k) (read_back c.determinant-lower.type_inv (det_read (λ x. x) (lowers s) (second s) (third s) c.determinant-lower.ensures));
+}

@@ -1,0 +1,24 @@
+-- `wide_least::value` meets its contract: the rows, one after the other. Assumes nothing.
+use mathlib.Core.Path.{ap, ◌∙◌}
+use native.Mathlib.Omega.{arith}
+use lib.IntN.{ℤ}
+use Rattle.foundation.specs.Least.{least_from}
+use Rattle.expansion_theory.specs.Rows.{line_at}
+use Rattle.search_theory.specs.Eighths.{least_rows}
+use Rattle.wide_array.specs.Values.{values, values_length, value_read}
+use Rattle.wide_least.proofs.value.Goals as goal
+
+pub returns : goal.returns
+returns c =
+    let g = c.args.g.now in
+    let first = value_read g 0 (omega arith) c.at-first.ensures in
+    let row1 = c.with_row-a.ensures ∙ ap (λ (v : ℤ). least_from v (line_at (values g) 0 8 1)) first in
+    let row2 = c.with_row-b.ensures ∙ ap (λ (v : ℤ). least_from v (line_at (values g) 12 21 13)) row1 in
+    let row3 = c.with_row-c.ensures ∙ ap (λ (v : ℤ). least_from v (line_at (values g) 4 16 5)) row2 in
+    let row4 = c.with_row-d.ensures ∙ ap (λ (v : ℤ). least_from v (line_at (values g) 11 20 9)) row3 in
+    let row5 = c.with_row-e.ensures ∙ ap (λ (v : ℤ). least_from v (line_at (values g) 24 26 22)) row4 in
+    let row6 = c.with_row-f.ensures ∙ ap (λ (v : ℤ). least_from v (line_at (values g) 19 25 17)) row5 in
+    let row7 = c.with_row-h.ensures ∙ ap (λ (v : ℤ). least_from v (line_at (values g) 3 10 2)) row6 in
+    let row8 = c.with_row-i.ensures ∙ ap (λ (v : ℤ). least_from v (line_at (values g) 15 23 14)) row7 in
+    let row9 = c.with_row.ensures ∙ ap (λ (v : ℤ). least_from v (line_at (values g) 7 18 6)) row8 in
+    row9 ∙ least_rows (values g) (values_length g)
