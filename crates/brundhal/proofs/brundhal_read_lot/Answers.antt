@@ -1,0 +1,25 @@
+-- `brundhal_read_lot` meets its contract: the answer of the reader, and where its label stands. Assumes nothing.
+use Prim.Native.Nat.{◌≤◌}
+use native.Mathlib.Omega.{arith}
+use lib.ListN.{length}
+use Rattle.lot_format.specs.NumberLaws.{bytes_by_place}
+use Rattle.brundhal.proofs.Label.{label_short, lot_answered}
+use Rattle.brundhal.proofs.brundhal_read_lot.Goals as goal
+
+pub overflow_cast-label : goal.overflow_cast-label
+overflow_cast-label c =
+    let a = c.args in
+    let short : length c.read-label.result.now ≤ 32 = label_short a.file.now a.nodes.now a.elements.now a.names.now a.lengths.now a.offsets.now (bytes_by_place a.file.now (λ i. omega (arith, c.type_inv.file i))) c.read-label.result.now c.read-label.ensures.result_value in
+    omega (arith, short)
+
+pub returns-clause-result_value : goal.returns-clause-result_value
+returns-clause-result_value c =
+    let a = c.args in
+    let e = c.read-label.ensures in
+    (lot_answered a.file.now a.nodes.now a.elements.now a.names.now a.lengths.now a.offsets.now (bytes_by_place a.file.now (λ i. omega (arith, c.type_inv.file i))) c.read-label.result.now e.result_value _ e.answer_after c.lot.result c.lot.ensures).0
+
+pub returns-clause-file_value : goal.returns-clause-file_value
+returns-clause-file_value c =
+    let a = c.args in
+    let e = c.read-label.ensures in
+    (lot_answered a.file.now a.nodes.now a.elements.now a.names.now a.lengths.now a.offsets.now (bytes_by_place a.file.now (λ i. omega (arith, c.type_inv.file i))) c.read-label.result.now e.result_value _ e.answer_after c.lot.result c.lot.ensures).1
