@@ -5,7 +5,7 @@ usage: python3 tools/respell_names.py [--list]      at the top of the repository
 
 A name is turned where a signature in an .antt file declares it, it begins with a small letter, and it has a capital, a dash or a prime:
 `leastFrom` and `least-from` become `least_from`. Types, modules, and what the checker names (`Need-..`, goals, steps) stay. Names that a file takes from
-a library stay in that file. Turned are .antt files, .rt files and the lines `old:` and `new:` of .edit files; in comments and pages what
+a library stay in that file. The name that a file gives to an import (`lowest as lowestOf`) is turned too. Turned are .antt files, .rt files and the lines `old:` and `new:` of .edit files; in comments and pages what
 stands in backticks. Where two names would fall together, FALLEN gives one of them another name. --list prints what would be turned.
 """
 import os
@@ -128,6 +128,19 @@ def imported(text, crates):
     return out
 
 
+def given(root):
+    """The names that files give to what they import, each with its new one."""
+    out = {}
+    for path in files(os.path.join(root, "crates"), ".antt", ".rt"):
+        for line in read(path).splitlines():
+            m = IMPORT.match(line)
+            for it in m.group(2).split(",") if m else ():
+                name = it.split(" as ")[-1].strip()
+                if " as " in it and turns(name):
+                    out[name] = re.sub(r"(?<=[a-z])[A-Z]+", lambda m: "_" + m.group().lower(), name)
+    return out
+
+
 def turn_words(text, names, keep):
     return WORD.sub(lambda m: names[m.group()] if m.group() in names and m.group() not in keep else m.group(), text)
 
@@ -165,7 +178,7 @@ def turn_code(text, names, keep, comment, strings):
 def main(root, only_list):
     crates = set(os.listdir(os.path.join(root, "crates")))
     found, every = declared(root)
-    names = {n: FALLEN.get(n, snake(n)) for n in found}
+    names = {n: FALLEN.get(n, snake(n)) for n in found} | given(root)
     if only_list:
         for n in sorted(names):
             print(n, names[n], ",".join(sorted(os.path.relpath(p, root) for p in found[n])))

@@ -3,7 +3,7 @@
 #![tactic(auto)]
 
 ghost use Rattle.std.specs.Prelude.{◌≡◌, ◌+◌, ◌*◌, ◌<◌, length};
-ghost use Rattle.definitions.specs.Coefficients.{numbers as numbersByPlace};
+ghost use Rattle.definitions.specs.Coefficients.{numbers as numbers_by_place};
 ghost use Rattle.definitions.specs.Subdivision.{halve};
 ghost use Rattle.expansion_theory.specs.Control.{Cuttable};
 ghost use Rattle.expansion_theory.specs.Rows.{Row, in_line};
@@ -19,14 +19,14 @@ const NUMBERS: [usize; 27] = [
 
 // A copy of these numbers.
 fn numbers() -> [usize; 27]
-    ensures { result ≡ numbersByPlace }
+    ensures { result ≡ numbers_by_place }
 {
     NUMBERS
 }
 
 // The number, less 1, of the coefficient at t in row j of direction d.
 fn number_at(numbers: &[usize; 27], d: u32, j: usize, t: usize) -> usize
-    requires { (numbers.now ≡ numbersByPlace) × (d < 3) × (j < 9) × (t < 3) }
+    requires { (numbers.now ≡ numbers_by_place) × (d < 3) × (j < 9) × (t < 3) }
     ensures { result ≡ in_line d (3 * j + t) }
 {
     let u = j / 3;

@@ -3,11 +3,11 @@
 #![tactic(auto)]
 
 ghost use Rattle.std.specs.Prelude.{◌≡◌, ℕ, ◌+◌, ◌-◌, ◌^◌, ◌<◌, ◌≤◌, take, pos};
-ghost use Rattle.foundation.specs.Least.{lesser as lesserOf, least_from};
+ghost use Rattle.foundation.specs.Least.{lesser as lesser_of, least_from};
 ghost use Rattle.definitions.specs.Record.{words as words_of};
 ghost use Rattle.verdict_theory.specs.Search.{nothing, coefficient, open_cell};
 ghost use Rattle.search_theory.specs.Meaning.{cell_of, lowest, Grid};
-ghost use Rattle.audit_theory.specs.Walk.{sought, opened, stops as stopsAt, noted as notedAt};
+ghost use Rattle.audit_theory.specs.Walk.{sought, opened, stops as stops_at, noted as noted_at};
 ghost use Rattle.wide_number.specs.Meaning.{value_of};
 ghost use Rattle.wide_array.specs.Values.{values};
 ghost use Rattle.audit_notes.specs.Meaning.{chosen, finding_of, notes_of, extremes_of, finding_at, blocked_in, record_in, extremes_in};
@@ -68,7 +68,7 @@ fn lowest_number(g: &[u64; 54]) -> usize
 
 // The lesser of two numbers.
 fn lesser(x: Wide, y: Wide) -> Wide
-    ensures { value_of result ≡ lesserOf (value_of x) (value_of y) }
+    ensures { value_of result ≡ lesser_of (value_of x) (value_of y) }
 {
     if x.at_most(y) {
         return x;
@@ -148,7 +148,7 @@ fn later_look(g: &[u64; 54], a: u32, b: u32, c: u32, opened: u32, before: Findin
 // A cell of the last level.
 pub fn noted(g: &[u64; 54], a: u32, b: u32, c: u32, n: Notes) -> Notes
     requires { Grid a 0 × Grid b 0 × Grid c 0 × (opened (notes_of n) + 1 < 2 ^ 32) }
-    ensures { notes_of result ≡ notedAt (cell_of a b c (values g.now)) (notes_of n) }
+    ensures { notes_of result ≡ noted_at (cell_of a b c (values g.now)) (notes_of n) }
 {
     match n {
         Notes::Nothing(opened) => first_look(g, a, b, c, opened),
@@ -162,7 +162,7 @@ pub fn noted(g: &[u64; 54], a: u32, b: u32, c: u32, n: Notes) -> Notes
 
 // Whether a cell is not cut: a search has found a low corner, or the cell has no low coefficient. A survey cuts every cell.
 pub fn stops(g: &[u64; 54], n: Notes) -> bool
-    ensures { (a b c : ℕ) → result ≡ stopsAt (cell_of a b c (values g.now)) (notes_of n) }
+    ensures { (a b c : ℕ) → result ≡ stops_at (cell_of a b c (values g.now)) (notes_of n) }
 {
     match n {
         Notes::Nothing(opened) => lowest_number(g) == 0,

@@ -5,7 +5,7 @@ use Rattle.std.proofs.Math.Seq.{take-nil}
 use Rattle.foundation.specs.Lists.{append_nil}
 use Rattle.foundation.specs.Laid.{put, put_nil}
 use Rattle.lot_format.specs.Numbers.{number, signed, unsigneds, signeds}
-use Rattle.lot_format.specs.Format.{Mark as FileMark, LB as markLB, ND as markND, HX as markHX, GR as markGR, EN as markEN}
+use Rattle.lot_format.specs.Format.{Mark as FileMark, LB as mark_lb, ND as mark_nd, HX as mark_hx, GR as mark_gr, EN as mark_en}
 use Rattle.lot_marks.specs.declared.Mark.{Mark}
 use Rattle.lot_marks.specs.Meaning.{mark_held}
 use Rattle.lot_scan.specs.declared.Counts.{Counts}
@@ -29,25 +29,25 @@ pub fit_by : {m k : Mark} {file : List ℕ} {at len : ℕ} {n : Counts} {nodes e
 fit_by {m} {k} {file} {at} {len} {n} {nodes} {elements} {names} {lengths} {offsets} e = subst (λ (m : Mark). Fitting (mark_held m) file at len n nodes elements names lengths offsets) e
 
 module _ {file : List ℕ} {at len : ℕ} {n : Counts} {nodes elements names lengths offsets : ℕ} where
-  node_length : Fitting markND file at len n nodes elements names lengths offsets → len ≡ 12
+  node_length : Fitting mark_nd file at len n nodes elements names lengths offsets → len ≡ 12
   node_length f = eqb-true len 12 f.right
 
-  element_length : Fitting markHX file at len n nodes elements names lengths offsets → len ≡ 32
+  element_length : Fitting mark_hx file at len n nodes elements names lengths offsets → len ≡ 32
   element_length f = eqb-true len 32 f.right
 
-  pub node_room : Fitting markND file at len n nodes elements names lengths offsets → (at + 12 ≤ length file) × (3 * n.nodes + 3 ≤ nodes)
+  pub node_room : Fitting mark_nd file at len n nodes elements names lengths offsets → (at + 12 ≤ length file) × (3 * n.nodes + 3 ≤ nodes)
   node_room f = (omega (arith, f.within, node_length f), f.nodes_fit)
 
-  pub element_room : Fitting markHX file at len n nodes elements names lengths offsets → (at + 32 ≤ length file) × (8 * n.elements + 8 ≤ elements)
+  pub element_room : Fitting mark_hx file at len n nodes elements names lengths offsets → (at + 32 ≤ length file) × (8 * n.elements + 8 ≤ elements)
   element_room f = (omega (arith, f.within, element_length f), f.elements_fit)
 
-  name_long : Fitting markGR file at len n nodes elements names lengths offsets → length (take len (drop at file) ++ []) ≡ len
+  name_long : Fitting mark_gr file at len n nodes elements names lengths offsets → length (take len (drop at file) ++ []) ≡ len
   name_long f = ap length (append_nil (take len (drop at file))) ∙ length-take-le len (drop at file) (simp length-drop (omega (arith, f.within)))
 
-  pub name_room : Fitting markGR file at len n nodes elements names lengths offsets → (at + len ≤ length file) × (n.names + len ≤ names)
+  pub name_room : Fitting mark_gr file at len n nodes elements names lengths offsets → (at + len ≤ length file) × (n.names + len ≤ names)
   name_room f = (f.within, omega (arith, f.names_fit, name_long f))
 
-  pub length_room : Fitting markGR file at len n nodes elements names lengths offsets → (n.groups < lengths) × (len < 4294967296)
+  pub length_room : Fitting mark_gr file at len n nodes elements names lengths offsets → (n.groups < lengths) × (len < 4294967296)
   length_room f = (omega (arith, f.lengths_fit), omega (arith, f.small.len_small))
 
 -- ---- the lent runs with one entry more; with subscript 0 before it
@@ -62,27 +62,27 @@ kept : {A : Type 0} (n : ℕ) (space : List A) → space ≡ put n [] space
 kept n space = sym (put_nil n space)
 
 module _ (file : List ℕ) (at len : ℕ) (n : Counts) (nodes₀ : List ℤ) (elements₀ names₀ lengths₀ offsets₀ : List ℕ) where
-  pub laid_label : Laid markLB file at len n nodes₀ elements₀ names₀ lengths₀ offsets₀ nodes₀ elements₀ names₀ lengths₀ offsets₀
+  pub laid_label : Laid mark_lb file at len n nodes₀ elements₀ names₀ lengths₀ offsets₀ nodes₀ elements₀ names₀ lengths₀ offsets₀
   laid_label = (kept (3 * n.nodes) nodes₀, (kept (8 * n.elements) elements₀, (kept n.names names₀, (kept n.groups lengths₀, kept n.groups offsets₀))))
 
-  pub laid_end : Laid markEN file at len n nodes₀ elements₀ names₀ lengths₀ offsets₀ nodes₀ elements₀ names₀ lengths₀ offsets₀
+  pub laid_end : Laid mark_en file at len n nodes₀ elements₀ names₀ lengths₀ offsets₀ nodes₀ elements₀ names₀ lengths₀ offsets₀
   laid_end = laid_label
 
-  pub laid_node : {a b d e f : ℕ} {nodes : List ℤ} → Fitting markND file at len n a b d e f → nodes ≡ put (3 * n.nodes) (signeds 3 (drop at file)) nodes₀
-      → Laid markND file at len n nodes₀ elements₀ names₀ lengths₀ offsets₀ nodes elements₀ names₀ lengths₀ offsets₀
+  pub laid_node : {a b d e f : ℕ} {nodes : List ℤ} → Fitting mark_nd file at len n a b d e f → nodes ≡ put (3 * n.nodes) (signeds 3 (drop at file)) nodes₀
+      → Laid mark_nd file at len n nodes₀ elements₀ names₀ lengths₀ offsets₀ nodes elements₀ names₀ lengths₀ offsets₀
   laid_node fit e =
       let body = ap (map signed) (sym (unsigneds_take 3 (drop at file)) ∙ ap (λ (k : ℕ). unsigneds 3 (take k (drop at file))) (sym (node_length fit))) in
       (e ∙ ap (λ (l : List ℤ). put (3 * n.nodes) l nodes₀) body, (kept (8 * n.elements) elements₀, (kept n.names names₀, (kept n.groups lengths₀, kept n.groups offsets₀))))
 
-  pub laid_element : {a b d e f : ℕ} {elements : List ℕ} → Fitting markHX file at len n a b d e f → elements ≡ put (8 * n.elements) (unsigneds 8 (drop at file)) elements₀
-      → Laid markHX file at len n nodes₀ elements₀ names₀ lengths₀ offsets₀ nodes₀ elements names₀ lengths₀ offsets₀
+  pub laid_element : {a b d e f : ℕ} {elements : List ℕ} → Fitting mark_hx file at len n a b d e f → elements ≡ put (8 * n.elements) (unsigneds 8 (drop at file)) elements₀
+      → Laid mark_hx file at len n nodes₀ elements₀ names₀ lengths₀ offsets₀ nodes₀ elements names₀ lengths₀ offsets₀
   laid_element fit e =
       let body = sym (unsigneds_take 8 (drop at file)) ∙ ap (λ (k : ℕ). unsigneds 8 (take k (drop at file))) (sym (element_length fit)) in
       (kept (3 * n.nodes) nodes₀, (e ∙ ap (λ (l : List ℕ). put (8 * n.elements) l elements₀) body, (kept n.names names₀, (kept n.groups lengths₀, kept n.groups offsets₀))))
 
-  pub laid_group : {a b d e f : ℕ} {names lengths offsets : List ℕ} → Fitting markGR file at len n a b d e f → names ≡ put n.names (take len (drop at file)) names₀
+  pub laid_group : {a b d e f : ℕ} {names lengths offsets : List ℕ} → Fitting mark_gr file at len n a b d e f → names ≡ put n.names (take len (drop at file)) names₀
       → lengths ≡ put n.groups (len ∷ []) lengths₀ → offsets ≡ put n.groups (n.elements ∷ []) offsets₀
-      → Laid markGR file at len n nodes₀ elements₀ names₀ lengths₀ offsets₀ nodes₀ elements₀ names lengths offsets
+      → Laid mark_gr file at len n nodes₀ elements₀ names₀ lengths₀ offsets₀ nodes₀ elements₀ names lengths offsets
   laid_group fit p q r =
       let name = take len (drop at file) in
       let long : len ≡ length name = sym (ap length (sym (append_nil name)) ∙ name_long fit) in (

@@ -1,6 +1,6 @@
 -- What the code's marks and stages stand for in the definitions of the lot file.
 use Rattle.std.proofs.Math.Option.{Option, none, some}
-use Rattle.lot_format.specs.Format.{Mark as FileMark, LB as markLB, ND as markND, HX as markHX, GR as markGR, EN as markEN, Stage as FileStage, at_label, at_nodes, at_elements, at_end}
+use Rattle.lot_format.specs.Format.{Mark as FileMark, LB as mark_lb, ND as mark_nd, HX as mark_hx, GR as mark_gr, EN as mark_en, Stage as FileStage, at_label, at_nodes, at_elements, at_end}
 use Rattle.lot_marks.specs.declared.Mark.{Mark}
 use Rattle.lot_marks.specs.declared.Mark.TheVariants.{LB, ND, HX, GR, EN}
 use Rattle.lot_marks.specs.declared.Marked.{Marked}
@@ -9,11 +9,11 @@ use Rattle.lot_marks.specs.declared.Stage.{Stage}
 use Rattle.lot_marks.specs.declared.Stage.TheVariants.{AtLabel, AtNodes, AtElements, AtEnd}
 
 abbrev pub mark_held : Mark → FileMark
-mark_held LB = markLB
-mark_held ND = markND
-mark_held HX = markHX
-mark_held GR = markGR
-mark_held EN = markEN
+mark_held LB = mark_lb
+mark_held ND = mark_nd
+mark_held HX = mark_hx
+mark_held GR = mark_gr
+mark_held EN = mark_en
 
 abbrev pub marked_held : Marked → Option FileMark
 marked_held (Known m) = some (mark_held m)

@@ -1,6 +1,6 @@
 -- What the code's answers stand for in the definitions of the lot file.
 use Rattle.std.specs.Prelude.{◌≡◌, Bool, ◌&&◌, ℕ, ◌+◌, ◌*◌, ◌≤◌, leb, length}
-use Rattle.lot_format.specs.Format.{lot_file, Mark as FileMark, LB as markLB, ND as markND, HX as markHX, GR as markGR, EN as markEN}
+use Rattle.lot_format.specs.Format.{lot_file, Mark as FileMark, LB as mark_lb, ND as mark_nd, HX as mark_hx, GR as mark_gr, EN as mark_en}
 use Rattle.lot_format.specs.Runs.{names_of}
 use Rattle.lot_format.specs.Reading.{Unreadable as FileUnreadable, Reading, readable, unreadable, lot_of, Room as FileRoom}
 use Rattle.lot_entry_reader.specs.Meaning.{unreadable_held}
@@ -14,11 +14,11 @@ no_counts = record { label = 0; nodes = 0; elements = 0; groups = 0; names = 0 }
 
 -- the counts with one entry more, whose body has so many bytes
 abbrev pub counted_of : FileMark → ℕ → Counts → Counts
-counted_of markLB len n = record { label = n.label + len; nodes = n.nodes; elements = n.elements; groups = n.groups; names = n.names }
-counted_of markND len n = record { label = n.label; nodes = n.nodes + 1; elements = n.elements; groups = n.groups; names = n.names }
-counted_of markHX len n = record { label = n.label; nodes = n.nodes; elements = n.elements + 1; groups = n.groups; names = n.names }
-counted_of markGR len n = record { label = n.label; nodes = n.nodes; elements = n.elements; groups = n.groups + 1; names = n.names + len }
-counted_of markEN len n = n
+counted_of mark_lb len n = record { label = n.label + len; nodes = n.nodes; elements = n.elements; groups = n.groups; names = n.names }
+counted_of mark_nd len n = record { label = n.label; nodes = n.nodes + 1; elements = n.elements; groups = n.groups; names = n.names }
+counted_of mark_hx len n = record { label = n.label; nodes = n.nodes; elements = n.elements + 1; groups = n.groups; names = n.names }
+counted_of mark_gr len n = record { label = n.label; nodes = n.nodes; elements = n.elements; groups = n.groups + 1; names = n.names + len }
+counted_of mark_en len n = n
 
 -- no more than a file has bytes
 pub record Small (len : ℕ) (n : Counts) : Type 0 where

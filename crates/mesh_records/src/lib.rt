@@ -5,7 +5,7 @@
 
 ghost use Rattle.std.specs.Prelude.{◌≡◌, ◌*◌, ◌/◌, ◌%◌, ◌≤◌, length};
 ghost use Rattle.definitions.specs.Limits.{base, record_words};
-ghost use Rattle.definitions.specs.Mesh.{records, report as reportOf, counts_of};
+ghost use Rattle.definitions.specs.Mesh.{records, report as report_of, counts_of};
 ghost use Rattle.inspection_counts.specs.Meaning.{counts_held};
 
 use inspection_counts::Counts;
@@ -15,7 +15,7 @@ pub fn write_records(coordinates: &[i32], indices: &[u32], depth: u32, report: &
     requires indices_len { (length indices.now % 8 ≡ 0) × (length indices.now / 8 ≤ base.elements) × (length report.old ≡ record_words * (length indices.now / 8)) }
     requires depth_le_depth { depth ≤ base.depth }
     ensures result_value { counts_held result ≡ counts_of (records base coordinates.now indices.now depth) }
-    ensures report_after { report.new ≡ reportOf base coordinates.now indices.now depth }
+    ensures report_after { report.new ≡ report_of base coordinates.now indices.now depth }
 {
     let mut counts = Counts {
         valid: 0,

@@ -6,7 +6,7 @@ ghost use Rattle.std.specs.Prelude.{◌≡◌, List, length, take, ℤ};
 ghost use Rattle.foundation.specs.Least.{least_from, least_of};
 ghost use Rattle.definitions.specs.Coefficients.{coefficients};
 ghost use Rattle.definitions.specs.Subdivision.{Cell};
-ghost use Rattle.verdict_theory.specs.Extremes.{extremes as extremesBelow};
+ghost use Rattle.verdict_theory.specs.Extremes.{extremes as extremes_below};
 ghost use Rattle.search_theory.specs.Meaning.{Small};
 ghost use Rattle.search_theory.specs.Bounds.{with_control, bounds_at};
 ghost use Rattle.narrow_rows.specs.Word.{largest};
@@ -51,7 +51,7 @@ fn with_cell(g: &[i64; 27], least: i64, r: Extremes) -> Extremes
 // The cells `left` levels below this one, of which the least coefficient is told, after those seen before.
 fn survey(g: &[i64; 27], least: i64, left: u32, r: Extremes) -> Extremes
     requires { Small largest g.now left × (least ≡ least_of g.now) }
-    ensures { (s : Cell) → s.control ≡ g.now → extremes_of result ≡ extremesBelow left s (extremes_of r) }
+    ensures { (s : Cell) → s.control ≡ g.now → extremes_of result ≡ extremes_below left s (extremes_of r) }
 {
     if left == 0 {
         return with_cell(g, least, r);

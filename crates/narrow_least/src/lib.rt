@@ -3,7 +3,7 @@
 #![tactic(auto)]
 
 ghost use Rattle.std.specs.Prelude.{◌≡◌, ◌<◌, length};
-ghost use Rattle.foundation.specs.Least.{lesser as lesserOf, least_from, least_of};
+ghost use Rattle.foundation.specs.Least.{lesser as lesser_of, least_from, least_of};
 ghost use Rattle.definitions.specs.Eighths.{least_number, eighth_of};
 ghost use Rattle.expansion_theory.specs.Rows.{line_at};
 ghost use Rattle.narrow_least.specs.Meaning.{told};
@@ -16,7 +16,7 @@ pub struct Least {
 }
 
 pub fn lesser(x: i64, y: i64) -> i64
-    ensures { result ≡ lesserOf x y }
+    ensures { result ≡ lesser_of x y }
 {
     if x <= y {
         return x;

@@ -4,7 +4,7 @@
 ghost use Rattle.std.specs.Prelude.{◌≡◌, false, List, ◌-◌, ◌<◌, ◌≤◌, get_or, ℤ, pos};
 ghost use Rattle.verdict_theory.specs.Search.{Pass, ended as has_ended, open_cell};
 ghost use Rattle.verdict_theory.specs.Clear.{more, opened_clear};
-ghost use Rattle.search_theory.specs.Meaning.{cell_of, lowest as lowestOf, Grid, Held};
+ghost use Rattle.search_theory.specs.Meaning.{cell_of, lowest as lowest_of, Grid, Held};
 ghost use Rattle.wide_number.specs.Meaning.{value_of};
 ghost use Rattle.search_pass.specs.Meaning.{pass_words};
 
@@ -15,7 +15,7 @@ use wide_number::Wide;
 // coefficient where nothing low was found before.
 pub fn open_low(value: Wide, a: u32, b: u32, c: u32, n: usize, pass: &mut [i64; PASS_WORDS])
     requires { Grid a 0 × Grid b 0 × Grid c 0 × Held pass_words 1 pass.old × (0 < n) × (n ≤ 27) }
-    ensures { (g : List ℤ) → n ≡ lowestOf g → value_of value ≡ get_or g (n - 1) (pos 0) → (p : Pass) → pass.old ≡ pass_words p → has_ended p.found ≡ false → pass.new ≡ pass_words (open_cell (cell_of a b c g) p) }
+    ensures { (g : List ℤ) → n ≡ lowest_of g → value_of value ≡ get_or g (n - 1) (pos 0) → (p : Pass) → pass.old ≡ pass_words p → has_ended p.found ≡ false → pass.new ≡ pass_words (open_cell (cell_of a b c g) p) }
 {
     search_pass::add_opened(1, pass);
     let k = n as u32 - 1;

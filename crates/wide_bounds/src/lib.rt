@@ -6,7 +6,7 @@ ghost use Rattle.std.specs.Prelude.{◌≡◌, List, take, ℤ};
 ghost use Rattle.foundation.specs.Least.{least_from, least_of};
 ghost use Rattle.definitions.specs.Coefficients.{coefficients};
 ghost use Rattle.definitions.specs.Subdivision.{Cell};
-ghost use Rattle.verdict_theory.specs.Extremes.{extremes as extremesBelow};
+ghost use Rattle.verdict_theory.specs.Extremes.{extremes as extremes_below};
 ghost use Rattle.search_theory.specs.Meaning.{Small};
 ghost use Rattle.search_theory.specs.Bounds.{with_control, bounds_at};
 ghost use Rattle.wide_number.specs.Meaning.{value_of};
@@ -52,7 +52,7 @@ fn with_cell(g: &[u64; 54], least: Wide, r: Extremes) -> Extremes
 // The cells `left` levels below this one, of which the least coefficient is told, after those seen before.
 fn survey(g: &[u64; 54], least: Wide, left: u32, r: Extremes) -> Extremes
     requires { Small largest (values g.now) left × (value_of least ≡ least_of (values g.now)) }
-    ensures { (s : Cell) → s.control ≡ values g.now → extremes_of result ≡ extremesBelow left s (extremes_of r) }
+    ensures { (s : Cell) → s.control ≡ values g.now → extremes_of result ≡ extremes_below left s (extremes_of r) }
 {
     if left == 0 {
         return with_cell(g, least, r);

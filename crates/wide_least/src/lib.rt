@@ -3,7 +3,7 @@
 #![tactic(auto)]
 
 ghost use Rattle.std.specs.Prelude.{◌≡◌, ◌<◌};
-ghost use Rattle.foundation.specs.Least.{lesser as lesserOf, least_from, least_of};
+ghost use Rattle.foundation.specs.Least.{lesser as lesser_of, least_from, least_of};
 ghost use Rattle.definitions.specs.Eighths.{least_number, eighth_of};
 ghost use Rattle.expansion_theory.specs.Rows.{line_at};
 ghost use Rattle.wide_number.specs.Meaning.{value_of};
@@ -20,7 +20,7 @@ pub struct Least {
 }
 
 pub fn lesser(x: Wide, y: Wide) -> Wide
-    ensures { value_of result ≡ lesserOf (value_of x) (value_of y) }
+    ensures { value_of result ≡ lesser_of (value_of x) (value_of y) }
 {
     if x.at_most(y) {
         return x;

@@ -8,7 +8,7 @@ ghost use Rattle.std.specs.Prelude.{◌≡◌, ◌*◌, pos, ◌+ℤ◌, ◌-ℤ
 ghost use Rattle.std.specs.Int.{w64};
 ghost use Rattle.std.proofs.Common.{to_z};
 ghost use Rattle.wrapping_theory.specs.Words.{together};
-ghost use Rattle.wrapping_theory.specs.Order.{lifted as withSignTurned};
+ghost use Rattle.wrapping_theory.specs.Order.{lifted as with_sign_turned};
 ghost use Rattle.wide_number.specs.Meaning.{value_of, modulo, order_of, single_of};
 
 // The bit of a word that tells its sign.
@@ -66,7 +66,7 @@ fn whole_product(u: u64, v: u64) -> Wide
 
 // A high word with its sign bit turned: then the order of words is that of their signed numbers.
 fn lifted(high: u64) -> u64
-    ensures { result ≡ withSignTurned high }
+    ensures { result ≡ with_sign_turned high }
 {
     std::num::wrapping_add_u64(high, SIGN)
 }
