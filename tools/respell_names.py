@@ -137,7 +137,7 @@ def given(root):
             for it in m.group(2).split(",") if m else ():
                 name = it.split(" as ")[-1].strip()
                 if " as " in it and turns(name):
-                    out[name] = re.sub(r"(?<=[a-z])[A-Z]+", lambda m: "_" + m.group().lower(), name)
+                    out[name] = snake(re.sub(r"(?<=[a-z])[A-Z]+", lambda m: "_" + m.group().lower(), name))
     return out
 
 
@@ -178,7 +178,7 @@ def turn_code(text, names, keep, comment, strings):
 def main(root, only_list):
     crates = set(os.listdir(os.path.join(root, "crates")))
     found, every = declared(root)
-    names = {n: FALLEN.get(n, snake(n)) for n in found} | given(root)
+    names = given(root) | {n: FALLEN.get(n, snake(n)) for n in found}
     if only_list:
         for n in sorted(names):
             print(n, names[n], ",".join(sorted(os.path.relpath(p, root) for p in found[n])))

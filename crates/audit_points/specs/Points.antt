@@ -7,7 +7,7 @@ use Rattle.definitions.specs.Coefficients.{coefficients}
 use Rattle.verdict_theory.specs.Opened.{most}
 use Rattle.verdict_theory.specs.Search.{visit}
 use Rattle.search_theory.specs.Meaning.{Small, Room}
-use Rattle.search_theory.specs.Points.{points_small as small-within}
+use Rattle.search_theory.specs.Points.{points_small as small_within}
 use Rattle.search_theory.specs.Levels.{whole_of, fresh, whole_room, most_less}
 use Rattle.search_theory.specs.Bounds.{bounds_at, bounds_are}
 use Rattle.audit_theory.specs.Walk.{Notes, sought, surveyed, opened, walk, walk_sought, walk_surveyed}
@@ -15,7 +15,7 @@ use Rattle.element_vectors.specs.Range.{InRange}
 use Rattle.wide_array.specs.Word.{largest}
 
 pub points_small : (xs g : List ℤ) (depth : ℕ) → InRange base.range xs → depth ≤ base.depth → g ≡ coefficients xs → Small largest g depth
-points_small xs g depth h = small-within largest base.range base.depth (lit≤ tt) xs g depth h.small
+points_small xs g depth h = small_within largest base.range base.depth (lit≤ tt) xs g depth h.small
 
 -- ---- three cuts for each level
 thirds : (m : ℕ) → 3 * m / 3 ≡ m

@@ -7,7 +7,7 @@ use Rattle.foundation.specs.Lists.{get_d_all}
 use Rattle.foundation.specs.Words.{within}
 use Rattle.definitions.specs.Coefficients.{coefficients}
 use Rattle.search_theory.specs.Meaning.{Small}
-use Rattle.search_theory.specs.Points.{points_small as small-within}
+use Rattle.search_theory.specs.Points.{points_small as small_within}
 use Rattle.narrow_rows.specs.Word.{largest}
 use Rattle.element_vectors.specs.Range.{InRange}
 use Rattle.narrow_volumes.specs.Range.{narrow_range}
@@ -45,4 +45,4 @@ pub narrow_points : (xs : List ℤ) → InRange one_word_range xs → InRange na
 narrow_points xs h = record { small = λ i. let l : one_word_range ≤ narrow_range = omega arith in le_trans (h.small i) l }
 
 pub points_small : (xs g : List ℤ) (depth : ℕ) → InRange one_word_range xs → depth ≤ one_word_depth → g ≡ coefficients xs → Small largest g depth
-points_small xs g depth h = small-within largest one_word_range one_word_depth (omega arith) xs g depth h.small
+points_small xs g depth h = small_within largest one_word_range one_word_depth (omega arith) xs g depth h.small

@@ -20,7 +20,7 @@ use Rattle.expansion_theory.specs.Size.{coefficient_finer}
 use Rattle.verdict_theory.specs.Opened.{most, opened_most}
 use Rattle.verdict_theory.specs.Named.{Names, OnGrid, named_on_grid}
 use Rattle.search_theory.specs.Meaning.{Small}
-use Rattle.search_theory.specs.Points.{points_small as small-within}
+use Rattle.search_theory.specs.Points.{points_small as small_within}
 use Rattle.search_theory.specs.Levels.{named_small, most_less}
 use Rattle.search_theory.specs.Bounds.{low_holds, high_holds}
 use Rattle.element_vectors.specs.Range.{InRange}
@@ -31,7 +31,7 @@ abbrev pub held_most : ℕ
 held_most = 384 * 2 ^ 108
 
 pub points_small : (xs g : List ℤ) (depth : ℕ) → InRange base.range xs → depth ≤ base.depth → g ≡ coefficients xs → Small largest g depth
-points_small xs g depth h = small-within largest base.range base.depth (lit≤ tt) xs g depth h.small
+points_small xs g depth h = small_within largest base.range base.depth (lit≤ tt) xs g depth h.small
 
 -- ---- how large the numbers get, for points within the limits at a level or depth within them
 module _ (xs : List ℤ) where
