@@ -1,5 +1,5 @@
-//! Both bounds: by the library, by an ordinary version that skips cells, by one that looks
-//! at every cell, and by the library's auditor, which does so too.
+//! Both bounds: by the library, by an ordinary version that skips cells, by the library's
+//! auditor, which looks at every cell, and by an ordinary version that does so too.
 
 use crate::lots::Lot;
 use crate::survey;
@@ -25,8 +25,8 @@ struct Way {
 static WAYS: [Way; 4] = [
     Way { name: "library", bounds: brundhal::bounds, surveys: !LIBRARY_SKIPS },
     Way { name: "skipping", bounds: survey::bounds::<true>, surveys: false },
-    Way { name: "every cell", bounds: survey::bounds::<false>, surveys: true },
     Way { name: "auditor", bounds: brundhal::audit_bounds, surveys: true },
+    Way { name: "every cell", bounds: survey::bounds::<false>, surveys: true },
 ];
 
 impl Way {
@@ -58,10 +58,10 @@ impl Way {
 }
 
 /// The versions that are asked: in a run of one round none that would take seconds,
-/// but for the library.
+/// but for the library and its auditor.
 fn asked(rounds: u32, depth: u32) -> &'static [Way] {
     let largest = depth == MAX_DEPTH;
-    &WAYS[..if largest && rounds == 1 { 2 } else { WAYS.len() }]
+    &WAYS[..if largest && rounds == 1 { 3 } else { WAYS.len() }]
 }
 
 /// The times an element of each version, found to give what the library gives.  A slow one
