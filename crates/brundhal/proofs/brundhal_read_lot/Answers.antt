@@ -12,14 +12,9 @@ overflow_cast-label c =
     let short : length c.read-label.result.now ≤ 32 = label_short a.file.now a.nodes.now a.elements.now a.names.now a.lengths.now a.offsets.now (bytes_by_place a.file.now (λ i. omega (arith, c.type_inv.file i))) c.read-label.result.now c.read-label.ensures.result_value in
     omega (arith, short)
 
-pub returns-clause-result_value : goal.returns-clause-result_value
-returns-clause-result_value c =
+pub returns : goal.returns
+returns c =
     let a = c.args in
     let e = c.read-label.ensures in
-    (lot_answered a.file.now a.nodes.now a.elements.now a.names.now a.lengths.now a.offsets.now (bytes_by_place a.file.now (λ i. omega (arith, c.type_inv.file i))) c.read-label.result.now e.result_value _ e.answer_after c.lot.result c.lot.ensures).0
-
-pub returns-clause-file_value : goal.returns-clause-file_value
-returns-clause-file_value c =
-    let a = c.args in
-    let e = c.read-label.ensures in
-    (lot_answered a.file.now a.nodes.now a.elements.now a.names.now a.lengths.now a.offsets.now (bytes_by_place a.file.now (λ i. omega (arith, c.type_inv.file i))) c.read-label.result.now e.result_value _ e.answer_after c.lot.result c.lot.ensures).1
+    let told = lot_answered a.file.now a.nodes.now a.elements.now a.names.now a.lengths.now a.offsets.now (bytes_by_place a.file.now (λ i. omega (arith, c.type_inv.file i))) c.read-label.result.now e.result_value _ e.answer_after c.lot.result c.lot.ensures in
+    record { result_value = told.0; file_value = told.1; nodes_after = e.nodes_after; elements_after = e.elements_after; names_after = e.names_after; lengths_after = e.lengths_after; offsets_after = e.offsets_after }
