@@ -10,20 +10,14 @@ ghost use Rattle.definitions.specs.Mesh.{inspection, report_after, bounds_of};
 ghost use Rattle.inspection_answers.specs.Meaning.{inspection_held, bounds_held};
 ghost use Rattle.inspection_answers.specs.Back.{bounds_back};
 
-use inspection_answers::{Bounds, Inspection};
+use inspection_answers::{Bounds, BoundsRefusal, Refusal};
+use inspection_counts::Counts;
 
-// The answers of both inspections.
-#[derive(Clone, Copy)]
-pub struct Inspections {
-    pub first: Inspection,
-    pub second: Inspection,
-}
-
-// The answers of both bounds services.
-#[derive(Clone, Copy)]
-pub struct BothBounds {
-    pub first: Bounds,
-    pub second: Bounds,
+// The answers of both inspectors.
+#[derive(Clone, Copy, Debug, PartialEq, Eq)]
+pub struct Both<T> {
+    pub first: T,
+    pub second: T,
 }
 
 // Inspects a mesh twice. Where both report spaces are alike before, they are alike after, and the answers are the same.
@@ -33,37 +27,31 @@ pub fn inspect_twice(
     depth: u32,
     report: &mut [i64],
     audited: &mut [i64],
-) -> Inspections
+) -> Both<Result<Counts, Refusal>>
     ensures first_value { report.old ≡ audited.old → (result.first ≡ result.second) × (report.new ≡ audited.new) }
     ensures first_value_2 { (inspection_held result.first ≡ inspection base coordinates.now indices.now (length report.old) depth) × (report.new ≡ report_after base coordinates.now indices.now report.old depth) }
     ensures second_value { (inspection_held result.second ≡ inspection base coordinates.now indices.now (length audited.old) depth) × (audited.new ≡ report_after base coordinates.now indices.now audited.old depth) }
 {
     let first = inspector::inspect(coordinates, indices, depth, report);
     let second = auditor::inspect(coordinates, indices, depth, audited);
-    Inspections {
-        first: first,
-        second: second,
-    }
+    Both { first, second }
 }
 
-// The same bounds again. The contract says that what they stand for determines them, word by word.
-fn bounds_again(b: Bounds) -> Bounds
+// The same bounds again, taken apart and put together: so the contract can say that what they stand for determines them, word by word.
+fn bounds_again(b: Result<Bounds, BoundsRefusal>) -> Result<Bounds, BoundsRefusal>
     ensures { (result ≡ bounds_back (bounds_held b)) × (result ≡ b) }
 {
-    match b {
-        Bounds::Both(low, high) => Bounds::Both(low, high),
-        Bounds::TooDeep => Bounds::TooDeep,
-        Bounds::OutOfRange => Bounds::OutOfRange,
-    }
+    let Bounds { low, high } = b?;
+    Ok(Bounds { low, high })
 }
 
 // The low and the high bound of eight points, twice: the same, in every word.
-pub fn bounds_twice(p: [i32; 24], depth: u32) -> BothBounds
+pub fn bounds_twice(p: [i32; 24], depth: u32) -> Both<Result<Bounds, BoundsRefusal>>
     ensures { (result.first ≡ result.second) × (bounds_held result.first ≡ bounds_of base p depth) }
 {
     let first = inspector::bounds_of(p, depth);
     let second = auditor::bounds_of(p, depth);
-    BothBounds {
+    Both {
         first: bounds_again(first),
         second: bounds_again(second),
     }

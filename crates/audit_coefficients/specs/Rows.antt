@@ -1,98 +1,87 @@
--- The rows of the table against the first twenty of 27 numbers: as they are worked, entry by entry, and that they are the coefficients.
-use Rattle.std.specs.Prelude.{◌≡◌, refl, ℕ, suc, ◌+◌, ◌*◌, ◌-◌, ◌^◌, ◌<◌, ◌≤◌, get_or, length, take, ℤ, pos, ◌+ℤ◌, ◌*ℤ◌}
-use Rattle.std.proofs.Common.{sym, ◌∙◌, subst, arith}
-use Rattle.std.proofs.Math.Path.{ap}
+-- A row of the table against the twenty volumes, entry by entry; how large its sums become; and that the rows are the coefficients.
+use Rattle.std.specs.Prelude.{◌≡◌, refl, ℕ, suc, ◌+◌, ◌*◌, ◌-◌, ◌<◌, ◌≤◌, leb, get_or, length, ℤ, pos, nat_abs, ◌+ℤ◌, ◌*ℤ◌}
+use Rattle.std.proofs.Common.{sym, ◌∙◌, ap, subst, arith, le_trans, le_of_eq, mul-le-mul, ext_get_or}
+use Rattle.std.proofs.Math.Facts.{leb_yes}
 use mathlib.Core.List.{List}
-use Rattle.std.proofs.Math.IntN.{nat_abs}
-use mir.Syntax.{w128}
-use Rattle.foundation.specs.Filled.{Filled, none_filled, one_filled}
-use Rattle.foundation.specs.Lists.{tabulate, tabulate_all, tabulate_cong, tabulate_agree}
+use Rattle.foundation.specs.Filled.{Filled, all_filled}
+use Rattle.foundation.specs.Lists.{below, tabulate, tabulate_agree, tabulate_at}
+use Rattle.foundation.specs.Magnitude.{magnitude_mul, magnitude_add}
 use Rattle.foundation.specs.Polynomial.{integers}
-use Rattle.foundation.specs.Words.{Within}
-use Rattle.definitions.specs.Limits.{base}
+use Rattle.foundation.specs.Words.{args}
 use Rattle.definitions.specs.Jacobian.{nodes_of}
 use Rattle.definitions.specs.Coefficients.{volumes, table, row, dot, coefficients}
-use Rattle.definitions.specs.Subdivision.{whole}
-use Rattle.definitions.specs.TwoWords.{value}
-use Rattle.expansion_theory.specs.Size.{whole_size}
-use Rattle.wrapping_theory.specs.Runs.{size_fits}
-use Rattle.wrapping_theory.specs.Congruence.{itself, chained, sum}
-use Rattle.wrapping_theory.specs.Wrapping.{wrapped_congruent, wrapped_fits, is_wrapped, exact}
-use Rattle.wide_number.specs.Meaning.{modulo}
-use Rattle.wide_array.specs.Values.{low_at, high_at, put_number, put_length, values, values_length, values_put}
-use Rattle.element_vectors.specs.Range.{InRange}
+use Rattle.audit_volumes.specs.Limits.{volume_limit}
 
--- row n against the first twenty numbers
-unfoldable pub row_against : List ℕ → ℕ → ℤ
-row_against ws n = dot integers (row n) (take 20 (values ws))
+-- ---- magnitudes: of an entry of the table, and of what twenty terms come to
+abbrev pub entry_limit : ℕ
+entry_limit = 8
+
+abbrev pub sum_limit : ℕ
+sum_limit = 20 * (entry_limit * volume_limit)
+
+-- entry k of row n of the table
+abbrev pub entry_of : List ℤ → ℕ → ℕ → ℤ
+entry_of xs n k = get_or xs (20 * n + k) (pos 0)
+
+pub entry_small : (k : ℕ) → k < 540 → nat_abs (args table k) ≤ entry_limit
+entry_small k h = leb_yes (below (λ k. leb (nat_abs (args table k)) entry_limit) 540 tt k h)
 
 -- ---- entry by entry
 -- the sum of a row's terms from number k on: c has the entries, v the numbers
 abbrev pub terms_from : (ℕ → ℤ) → (ℕ → ℤ) → ℕ → ℤ
 terms_from c v k = dot integers (tabulate c k (20 - k)) (tabulate v k (20 - k))
 
-one_more : (c v : ℕ → ℤ) (k : ℕ) → 0 < k → k ≤ 20 → terms_from c v (k - 1) ≡ c (k - 1) *ℤ v (k - 1) +ℤ terms_from c v k
-one_more c v k h l = ap (λ (m : ℕ). dot integers (tabulate c (k - 1) m) (tabulate v (k - 1) m)) more ∙ ap (λ (j : ℕ). c (k - 1) *ℤ v (k - 1) +ℤ dot integers (tabulate c j (20 - k)) (tabulate v j (20 - k))) same
+one_more : (c v : ℕ → ℤ) (k : ℕ) → k < 20 → terms_from c v k ≡ c k *ℤ v k +ℤ terms_from c v (k + 1)
+one_more c v k l = ap (λ (m : ℕ). dot integers (tabulate c k m) (tabulate v k m)) more ∙ ap (λ (j : ℕ). c k *ℤ v k +ℤ dot integers (tabulate c j (20 - (k + 1))) (tabulate v j (20 - (k + 1)))) same
   where
-    more : 20 - (k - 1) ≡ suc (20 - k)
-    more = omega (arith, h, l)
+    more : 20 - k ≡ suc (20 - (k + 1))
+    more = omega (arith, l)
 
-    same : suc (k - 1) ≡ k
-    same = omega (arith, h)
+    same : suc k ≡ k + 1
+    same = omega arith
 
--- modulo 2^128, a part of a sum may itself be taken modulo 2^128
-module _ (a b : ℤ) where
-  pub modulo_left : modulo (modulo a +ℤ b) ≡ modulo (a +ℤ b)
-  modulo_left = is_wrapped w128 (wrapped_fits w128 (modulo a +ℤ b)) (chained (wrapped_congruent w128 (modulo a +ℤ b)) (sum (wrapped_congruent w128 a) (itself b)))
+-- before the term of number k: the sum of those behind it, and how large it is
+pub record Summed (c v : ℕ → ℤ) (k : ℕ) (sum : ℤ) : Type 0 where
+  pub few : k ≤ 20
+  pub is : sum ≡ terms_from c v k
+  pub small : nat_abs sum ≤ (20 - k) * (entry_limit * volume_limit)
 
-  modulo_right : modulo (a +ℤ modulo b) ≡ modulo (a +ℤ b)
-  modulo_right = is_wrapped w128 (wrapped_fits w128 (a +ℤ modulo b)) (chained (wrapped_congruent w128 (a +ℤ modulo b)) (sum (itself a) (wrapped_congruent w128 b)))
+pub none_summed : (c v : ℕ → ℤ) → Summed c v 20 (pos 0)
+none_summed c v = record { few = omega arith; is = refl; small = omega arith }
 
-pub no_terms : (c v : ℕ → ℤ) {s : ℤ} → s ≡ pos 0 → s ≡ modulo (terms_from c v 20)
-no_terms c v e = e ∙ sym (exact w128 (size_fits w128 0 (pos 0) (omega arith) tt))
+pub summed_small : {c v : ℕ → ℤ} {k : ℕ} {sum : ℤ} → Summed c v k sum → nat_abs sum ≤ sum_limit
+summed_small {k = k} s = le_trans s.small (go (20 - k) (omega arith))
+  where
+    go : (m : ℕ) → m ≤ 20 → m * (entry_limit * volume_limit) ≤ sum_limit
+    go m h = omega (arith, h)
 
-pub term_added : (c v : ℕ → ℤ) (k : ℕ) → 0 < k → k ≤ 20 → {s t : ℤ} → s ≡ modulo (terms_from c v k) → t ≡ modulo (c (k - 1) *ℤ v (k - 1) +ℤ s) → t ≡ modulo (terms_from c v (k - 1))
-term_added c v k h l e f = f ∙ ap (λ (z : ℤ). modulo (c (k - 1) *ℤ v (k - 1) +ℤ z)) e ∙ modulo_right (c (k - 1) *ℤ v (k - 1)) (terms_from c v k) ∙ ap modulo (sym (one_more c v k h l))
+pub one_summed : (c v : ℕ → ℤ) (m : ℕ) {sum next : ℤ} → 0 < m → Summed c v m sum → nat_abs (c (m - 1)) ≤ entry_limit → nat_abs (v (m - 1)) ≤ volume_limit → next ≡ c (m - 1) *ℤ v (m - 1) +ℤ sum → Summed c v (m - 1) next
+one_summed c v m {sum} {next} some s h l e = record {
+  few = omega (arith, s.few);
+  is = e ∙ ap (λ (z : ℤ). c k *ℤ v k +ℤ z) (s.is ∙ ap (terms_from c v) (sym back)) ∙ sym (one_more c v k (omega (arith, s.few, some)));
+  small = subst (λ (z : ℤ). nat_abs z ≤ (20 - k) * (entry_limit * volume_limit)) (sym e) (le_trans (magnitude_add (c k *ℤ v k) sum) (omega (arith, term, s.small, s.few, some)));
+}
+  where
+    k : ℕ
+    k = m - 1
 
--- entry k of row n of the table, and number k of the words
-abbrev pub entry_of : List ℤ → ℕ → ℕ → ℤ
-entry_of xs n k = get_or xs (20 * n + k) (pos 0)
+    back : k + 1 ≡ m
+    back = omega (arith, some)
 
-abbrev pub number_of : List ℕ → ℕ → ℤ
-number_of ws k = value (low_at ws k) (high_at ws k)
+    term : nat_abs (c k *ℤ v k) ≤ entry_limit * volume_limit
+    term = le_trans (le_of_eq (magnitude_mul (c k) (v k))) (mul-le-mul h l)
 
+-- ---- all twenty
 rows_are : (n : ℕ) → n < 27 → tabulate (entry_of table n) 0 20 ≡ row n
 rows_are = tabulate_agree (λ n. tabulate (entry_of table n) 0 20) row 27 refl
 
-pub all_terms : (ws : List ℕ) (n : ℕ) → n < 27 → terms_from (entry_of table n) (number_of ws) 0 ≡ row_against ws n
-unfolding row_against values
-all_terms ws n h = ap (λ (cs : List ℤ). dot integers cs (tabulate (number_of ws) 0 20)) (rows_are n h)
+pub all_terms : (n : ℕ) → n < 27 → (vs : List ℤ) → length vs ≡ 20 → {sum : ℤ} → Summed (entry_of table n) (args vs) 0 sum → sum ≡ dot integers (row n) vs
+all_terms n h vs sized s = s.is ∙ (λ i. dot integers (rows_are n h i) (whole i))
+  where
+    whole : tabulate (args vs) 0 20 ≡ vs
+    whole = ext_get_or (pos 0) (tabulate (args vs) 0 20) vs (sym sized) (λ k l. tabulate_at (args vs) 20 k (pos 0) l)
 
--- ---- the rows, laid down one after the other: 54 words, of whose 27 numbers the first n are rows against those of ws
-pub record Begun (ws : List ℕ) (n : ℕ) (out : List ℕ) : Type 0 where
-  pub words : length out ≡ 54
-  pub numbers : Filled (λ i. modulo (row_against ws i)) 27 n (values out)
-
-pub begin : (ws : List ℕ) {out : List ℕ} → length out ≡ 54 → Begun ws 0 out
-begin ws {out} h = record { words = h; numbers = none_filled (λ i. modulo (row_against ws i)) (values_length out) }
-
-pub next : (l h : ℕ) {ws : List ℕ} {n : ℕ} {out out' : List ℕ} → Begun ws n out → n < 27 → out' ≡ put_number l h n out → value l h ≡ modulo (row_against ws n) → Begun ws (n + 1) out'
-next l h {ws} {n} {out} b s e v = record {
-  words = ap length e ∙ put_length l h n out ∙ b.words;
-  numbers = subst (Filled (λ i. modulo (row_against ws i)) 27 (n + 1)) (sym (ap values e ∙ values_put l h n out s b.words)) (one_filled (λ i. modulo (row_against ws i)) b.numbers s v);
-}
-
--- ---- against the volumes of points in range they are the coefficients, which two words hold
-module _ (xs : List ℤ) (r : InRange base.range xs) where
-  small : Within (384 * base.range ^ 3) (coefficients xs)
-  unfolding whole
-  small = whole_size xs base.range r.small
-
-  held : (n : ℕ) → n < 27 → modulo (dot integers (row n) (volumes integers (nodes_of xs))) ≡ dot integers (row n) (volumes integers (nodes_of xs))
-  unfolding coefficients
-  held n h = let z = dot integers (row n) (volumes integers (nodes_of xs)) in
-      exact w128 (size_fits w128 (384 * base.range ^ 3) z (tabulate_all (λ v. nat_abs v ≤ 384 * base.range ^ 3) (λ n. dot integers (row n) (volumes integers (nodes_of xs))) 0 27 small n (omega arith) h) tt)
-
-  pub rows_coefficients : (ws : List ℕ) → take 20 (values ws) ≡ volumes integers (nodes_of xs) → tabulate (λ n. modulo (row_against ws n)) 0 27 ≡ coefficients xs
-  unfolding coefficients row_against
-  rows_coefficients ws e = tabulate_cong (λ n. modulo (dot integers (row n) (take 20 (values ws)))) (λ n. dot integers (row n) (volumes integers (nodes_of xs))) 0 27 (λ n h. ap (λ (vs : List ℤ). modulo (dot integers (row n) vs)) e ∙ held n h)
+-- ---- the rows against the volumes are the coefficients
+pub rows_coefficients : (xs : List ℤ) {vs out : List ℤ} → vs ≡ volumes integers (nodes_of xs) → Filled (λ n. dot integers (row n) vs) 27 27 out → out ≡ coefficients xs
+unfolding coefficients
+rows_coefficients xs {vs} e f = all_filled (λ n. dot integers (row n) vs) f ∙ ap (λ (ws : List ℤ). tabulate (λ n. dot integers (row n) ws) 0 27) e

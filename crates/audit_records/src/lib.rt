@@ -9,20 +9,16 @@ ghost use Rattle.inspection_counts.specs.Meaning.{counts_held};
 
 use inspection_counts::Counts;
 use limits::RECORD_WORDS;
-use mesh_elements::Element;
 
-// The record of the element whose eight indices are lent.
-fn element(coordinates: &[i32], ix: &[u32], depth: u32) -> [i64; RECORD_WORDS]
-    requires { (length ix.now ≡ 8) × (depth ≤ base.depth) }
+// The record of the element whose eight indices are lent. Like the loop below, it is the auditor's own and not shared with the first inspector's
+// `mesh_element_records` and `mesh_records`: 02, No. 6, asks for a second inspector, and docs/TRUST.md lists the records of a mesh as its own.
+fn element(coordinates: &[i32], ix: &[u32; 8], depth: u32) -> [i64; RECORD_WORDS]
+    requires { depth ≤ base.depth }
     ensures { result ≡ element_record base coordinates.now ix.now depth }
 {
-    let mut p = [0i32; 24];
-    let fault = mesh_elements::fault(coordinates, ix, &mut p);
-    match fault {
-        Element::Whole => audit_points::record(&p, depth),
-        Element::Missing(place, index) => mesh_elements::fault_words(fault),
-        Element::Twice(lower, higher) => mesh_elements::fault_words(fault),
-        Element::Outside(place, axis) => mesh_elements::fault_words(fault),
+    match mesh_elements::points(coordinates, ix) {
+        Ok(p) => audit_points::record(&p, depth),
+        Err(fault) => mesh_elements::fault_words(Some(fault)),
     }
 }
 
@@ -33,16 +29,10 @@ pub fn write_records(coordinates: &[i32], indices: &[u32], depth: u32, report: &
     ensures result_value { counts_held result ≡ counts_of (records base coordinates.now indices.now depth) }
     ensures report_after { report.new ≡ report_of base coordinates.now indices.now depth }
 {
-    let mut counts = Counts {
-        valid: 0,
-        invalid: 0,
-        undecided: 0,
-        refused: 0,
-    };
-    let n = indices.len() / 8;
-    for e in 0..n {
-        let at = 8 * e;
-        let words = element(coordinates, &indices[at..at + 8], depth);
+    let (elements, _) = indices.as_chunks::<8>();
+    let mut counts = Counts::default();
+    for (e, ix) in elements.iter().enumerate() {
+        let words = element(coordinates, ix, depth);
         counts = mesh_report::enter(words, e, counts, report);
     }
     counts

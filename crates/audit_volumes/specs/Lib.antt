@@ -1,2 +1,3 @@
-pub mod Begun
 pub mod Limits
+pub mod Vectors
+pub mod Sizes

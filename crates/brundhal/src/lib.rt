@@ -33,6 +33,8 @@ use brundhal_mesh_answers::BrundhalInspection;
 use brundhal_name_answers::BrundhalName;
 use brundhal_number_answers::{BrundhalNumber, BrundhalSingle};
 use brundhal_written_answers::BrundhalWritten;
+use cell_address::Address;
+use lot_runs::{Groups, Space};
 
 // The version of what the library's callers see.
 #[unsafe(no_mangle)]
@@ -53,7 +55,7 @@ pub extern "C" fn brundhal_inspect(
     ensures result_value { inspection_fields result ≡ inspection_numbers (inspection base coordinates.now indices.now (length report.old) depth) }
     ensures report_after { report.new ≡ report_after base coordinates.now indices.now report.old depth }
 {
-    brundhal_mesh_answers::numbers(inspector::inspect(coordinates, indices, depth, report))
+    BrundhalInspection::from(inspector::inspect(coordinates, indices, depth, report))
 }
 
 // Both bounds of eight points: `inspector::bounds_of`.
@@ -61,8 +63,7 @@ pub extern "C" fn brundhal_inspect(
 pub extern "C" fn brundhal_bounds(points: &[i32; 24], depth: u32) -> BrundhalBounds
     ensures { bounds_fields result ≡ bounds_numbers (bounds_of base points.now depth) }
 {
-    let p = *points;
-    brundhal_bounds_answers::pair(inspector::bounds_of(p, depth))
+    BrundhalBounds::from(inspector::bounds_of(*points, depth))
 }
 
 // The same by the second inspector: `auditor::inspect` and `auditor::bounds_of`.
@@ -76,15 +77,14 @@ pub extern "C" fn brundhal_audit(
     ensures result_value { inspection_fields result ≡ inspection_numbers (inspection base coordinates.now indices.now (length report.old) depth) }
     ensures report_after { report.new ≡ report_after base coordinates.now indices.now report.old depth }
 {
-    brundhal_mesh_answers::numbers(auditor::inspect(coordinates, indices, depth, report))
+    BrundhalInspection::from(auditor::inspect(coordinates, indices, depth, report))
 }
 
 #[unsafe(no_mangle)]
 pub extern "C" fn brundhal_audit_bounds(points: &[i32; 24], depth: u32) -> BrundhalBounds
     ensures { bounds_fields result ≡ bounds_numbers (bounds_of base points.now depth) }
 {
-    let p = *points;
-    brundhal_bounds_answers::pair(auditor::bounds_of(p, depth))
+    BrundhalBounds::from(auditor::bounds_of(*points, depth))
 }
 
 // The stamp of an inspection's answer, 0 sound, 1 faulty or 2 open: `inspection_counts::stamp_of`. An answer with another number than 0 is that of a
@@ -101,21 +101,21 @@ pub extern "C" fn brundhal_stamp(answer: BrundhalInspection) -> u32
 pub extern "C" fn brundhal_child(q: BrundhalAddress, n: u32) -> BrundhalMove
     ensures { move_fields result ≡ move_numbers (child_address base.depth (address_held q) n) }
 {
-    brundhal_cell_answers::moved(brundhal_cell_answers::address(q).child(n))
+    BrundhalMove::from(Address::from(q).child(n))
 }
 
 #[unsafe(no_mangle)]
 pub extern "C" fn brundhal_corner(q: BrundhalAddress, n: u32) -> BrundhalMove
     ensures { move_fields result ≡ move_numbers (corner_address base.depth (address_held q) n) }
 {
-    brundhal_cell_answers::moved(brundhal_cell_answers::address(q).corner(n))
+    BrundhalMove::from(Address::from(q).corner(n))
 }
 
 #[unsafe(no_mangle)]
 pub extern "C" fn brundhal_parent(q: BrundhalAddress) -> BrundhalMove
     ensures { move_fields result ≡ move_numbers (parent_address base.depth (address_held q)) }
 {
-    brundhal_cell_answers::moved(brundhal_cell_answers::address(q).parent())
+    BrundhalMove::from(Address::from(q).parent())
 }
 
 // Reads a lot file: `lot_reader::read`. C has no part of a slice, so the label is told by its place in the file and its length.
@@ -136,9 +136,17 @@ pub extern "C" fn brundhal_read_lot(
     ensures lengths_after { lengths.new ≡ laid_over (handed_out (read_into lot_file file.now nodes.old elements.old names.old lengths.old offsets.old)).lengths lengths.old }
     ensures offsets_after { offsets.new ≡ laid_over (handed_out (read_into lot_file file.now nodes.old elements.old names.old lengths.old offsets.old)).offsets offsets.old }
 {
-    let mut answer = [0u32; 5];
-    let label = lot_reader::read(file, nodes, elements, names, lengths, offsets, &mut answer);
-    brundhal_lot_answers::lot(answer, label.len() as u32)
+    let mut space = Space {
+        nodes,
+        elements,
+        names,
+        lengths,
+        offsets,
+    };
+    match lot_reader::read(file, &mut space) {
+        Ok(contents) => { brundhal_lot_answers::accepted(contents, contents.label.len() as u32) }
+        Err(r) => brundhal_lot_answers::refused(r),
+    }
 }
 
 // Writes a lot file: `lot_writer::write`.
@@ -155,9 +163,18 @@ pub extern "C" fn brundhal_write_lot(
     ensures result_value { written_fields result ≡ writing_numbers (writing lot_file (runs label.now nodes.now elements.now names.now lengths.now offsets.now) (length out.old)) }
     ensures out_after { out.new ≡ laid_over (file_of (writing lot_file (runs label.now nodes.now elements.now names.now lengths.now offsets.now) (length out.old))) out.old }
 {
-    brundhal_written_answers::written(lot_writer::write(
-        label, nodes, elements, names, lengths, offsets, out,
-    ))
+    let groups = lot_runs::Groups {
+        names,
+        lengths,
+        offsets,
+    };
+    let lot = lot_runs::Lot {
+        label,
+        nodes,
+        elements,
+        groups,
+    };
+    brundhal_written_answers::written(lot_writer::write(lot, out))
 }
 
 // The name that an element bears: `lot_naming::name_of`. C has no part of a slice, so it is told by its place and its length.
@@ -173,9 +190,14 @@ pub extern "C" fn brundhal_name(
     ensures result_value { name_fields result ≡ name_numbers label.now (groups_of names.now lengths.now offsets.now) element (naming lot_file label.now names.now lengths.now offsets.now elements element) }
     ensures names_value { name_told result label.now names.now ≡ name_given (naming lot_file label.now names.now lengths.now offsets.now elements element) }
 {
-    let number = lot_naming::refusal_of(label, names, lengths, offsets, elements, element);
-    let part = lot_group_names::part_in_force(names, lengths, offsets, element);
-    brundhal_name_answers::name(number, part, label.len())
+    let groups = Groups {
+        names,
+        lengths,
+        offsets,
+    };
+    let refusal = lot_naming::refusal_of(label, groups, elements, element);
+    let part = lot_group_names::part_in_force(groups, element);
+    brundhal_name_answers::name(refusal, part, label.len())
 }
 
 // Writes the slip of a lot file to the front of the lent bytes and returns its length: `slip_writer::write`.

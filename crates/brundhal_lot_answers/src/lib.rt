@@ -3,12 +3,16 @@
 #![tactic(auto)]
 
 ghost use Rattle.std.specs.Prelude.{◌≡◌};
-ghost use Rattle.brundhal_lot_answers.specs.Meaning.{lot_fields, label_start, lot_told};
+ghost use Rattle.lot_reader.specs.Meaning.{numbers_told};
+ghost use Rattle.brundhal_lot_answers.specs.Meaning.{lot_fields, lot_told};
+
+use lot_entry_reader::Unreadable;
+use lot_reader::Contents;
 
 // The number that answers the reading of a lot file, 0 or 20 to 27, the numbers of nodes, elements, groups and bytes of the groups' names,
 // and where in the file the label stands: its first byte's place and its length.
 #[repr(C)]
-#[derive(Clone, Copy)]
+#[derive(Clone, Copy, Debug, PartialEq, Eq)]
 pub struct BrundhalLot {
     pub number: u32,
     pub nodes: u32,
@@ -19,27 +23,32 @@ pub struct BrundhalLot {
     pub len: u32,
 }
 
-// Where the label of a lot with this number starts.
-fn label_start(number: u32) -> u32
-    ensures { result ≡ label_start number }
-{
-    if number == 0 {
-        return 4;
-    }
-    0
-}
-
-// The reading of a lot file, by its five numbers and the length of its label.
-pub fn lot(answer: [u32; 5], len: u32) -> BrundhalLot
-    ensures { lot_fields result ≡ lot_told answer len }
+// The answer for an accepted lot, by what it holds and the length of its label, which starts behind the four bytes of its mark and length.
+pub fn accepted(contents: Contents, len: u32) -> BrundhalLot
+    ensures { lot_fields result ≡ lot_told (numbers_told (Ok contents.entry)) len }
 {
     BrundhalLot {
-        number: answer[0],
-        nodes: answer[1],
-        elements: answer[2],
-        groups: answer[3],
-        names: answer[4],
-        start: label_start(answer[0]),
-        len: len,
+        number: 0,
+        nodes: contents.nodes,
+        elements: contents.elements,
+        groups: contents.groups,
+        names: contents.names,
+        start: 4,
+        len,
+    }
+}
+
+// The answer for a refused lot: the refusal's number, and 0 for each.
+pub fn refused(r: Unreadable) -> BrundhalLot
+    ensures { lot_fields result ≡ lot_told (numbers_told (Err r)) 0 }
+{
+    BrundhalLot {
+        number: u32::from(r),
+        nodes: 0,
+        elements: 0,
+        groups: 0,
+        names: 0,
+        start: 0,
+        len: 0,
     }
 }

@@ -7,12 +7,12 @@ ghost use Rattle.inspection_counts.specs.Meaning.{stamp_held};
 ghost use Rattle.inspection_answers.specs.Meaning.{inspection_held};
 ghost use Rattle.brundhal_mesh_answers.specs.Meaning.{inspection_numbers, inspection_fields, stamp_number, stamp_told, stamp_for};
 
-use inspection_answers::Inspection;
+use inspection_answers::Refusal;
 use inspection_counts::{Counts, Stamp};
 
 // The number that answers an inspection, 0 or 1 to 4, and the four counts.
 #[repr(C)]
-#[derive(Clone, Copy)]
+#[derive(Clone, Copy, Default)]
 pub struct BrundhalInspection {
     pub number: u32,
     pub valid: u32,
@@ -21,38 +21,28 @@ pub struct BrundhalInspection {
     pub refused: u32,
 }
 
-// A refused mesh: its number, and counts 0.
-fn refused(number: u32) -> BrundhalInspection
-    ensures { result ≡ record { number = number; valid = 0; invalid = 0; undecided = 0; refused = 0 } }
-{
-    BrundhalInspection {
-        number: number,
-        valid: 0,
-        invalid: 0,
-        undecided: 0,
-        refused: 0,
+// An inspection. A refused mesh has its number, and counts 0.
+impl From<Result<Counts, Refusal>> for BrundhalInspection {
+    ghost from_gives = { λ answer r. inspection_fields r ≡ inspection_numbers (inspection_held answer) };
+
+    fn from(answer: Result<Counts, Refusal>) -> BrundhalInspection {
+        match answer {
+            Ok(n) => BrundhalInspection {
+                number: 0,
+                valid: n.valid,
+                invalid: n.invalid,
+                undecided: n.undecided,
+                refused: n.refused,
+            },
+            Err(refusal) => BrundhalInspection {
+                number: u32::from(refusal),
+                ..BrundhalInspection::default()
+            },
+        }
     }
 }
 
-// An inspection.
-pub fn numbers(answer: Inspection) -> BrundhalInspection
-    ensures { inspection_fields result ≡ inspection_numbers (inspection_held answer) }
-{
-    match answer {
-        Inspection::Accepted(n) => BrundhalInspection {
-            number: 0,
-            valid: n.valid,
-            invalid: n.invalid,
-            undecided: n.undecided,
-            refused: n.refused,
-        },
-        Inspection::DepthTooGreat => refused(1),
-        Inspection::BadCoordinates => refused(2),
-        Inspection::BadIndices => refused(3),
-        Inspection::BadSpace => refused(4),
-    }
-}
-
+// A stamp as a number, which only C has: `From` would have to stand beside `Stamp`.
 fn stamp_number(stamp: Stamp) -> u32
     ensures { result ≡ stamp_number (stamp_held stamp) }
 {

@@ -1,6 +1,6 @@
 -- The words of a number of two words are those of its value, and those of a whole number's representative are the whole number's. Assumes nothing.
-use mathlib.Core.Path.{◌≡◌, sym, ap, ◌∙◌}
-use mathlib.Core.List.{List, [], ◌∷◌}
+use mathlib.Core.Path.{◌≡◌, sym}
+use mathlib.Core.List.{[], ◌∷◌}
 use Prim.Native.Nat.{ℕ}
 use lib.IntN.{ℤ}
 use mir.Syntax.{w128}
@@ -15,7 +15,3 @@ own_words low high w = λ i. sym (low_word_is low high w) i ∷ sym (high_word_i
 pub wrapped_words : (z : ℤ) → number_words (wrapped w128 z) ≡ number_words z
 unfolding number_words
 wrapped_words z = λ i. wrapped_low z i ∷ wrapped_high z i ∷ []
-
--- what is handed back is a representative: then its words are those of the whole number
-pub answered : {fields : List ℕ} {v z exact : ℤ} → fields ≡ number_words v → v ≡ wrapped w128 z → z ≡ exact → fields ≡ number_words exact
-answered {z = z} e f g = e ∙ ap number_words f ∙ wrapped_words z ∙ ap number_words g

@@ -1,10 +1,8 @@
 -- Numbers of two words and the answers about them as plain numbers, and what a caller's plain words stand for.
-use Rattle.std.specs.Prelude.{Bool, true, false, List, [], ◌∷◌, ℕ, ℤ, pos, negsuc}
+use Rattle.std.specs.Prelude.{Bool, true, false, List, [], ◌∷◌, ℕ, ℤ, pos, negsuc, Option, Some, None}
+use Rattle.std.specs.declared.cmp.Ordering.{Ordering}
+use Rattle.std.specs.declared.cmp.Ordering.TheVariants.{Less, Equal, Greater}
 use Rattle.definitions.specs.TwoWords.{value, low_word, high_word}
-use Rattle.wide_number.specs.declared.Order.{Order}
-use Rattle.wide_number.specs.declared.Order.TheVariants.{Less, Equal, Greater}
-use Rattle.wide_number.specs.declared.Single.{Single}
-use Rattle.wide_number.specs.declared.Single.TheVariants.{Number, TooLong}
 use Rattle.brundhal_number_answers.specs.declared.BrundhalNumber.{BrundhalNumber}
 use Rattle.brundhal_number_answers.specs.declared.BrundhalSingle.{BrundhalSingle}
 
@@ -17,15 +15,15 @@ abbrev pub number_fields : BrundhalNumber → List ℕ
 number_fields r = r.low ∷ r.high ∷ []
 
 -- a number in one word: 1 and the number, or 0 and 0
-abbrev pub single_numbers : Single → List ℤ
-single_numbers (Number z) = pos 1 ∷ z ∷ []
-single_numbers TooLong = pos 0 ∷ pos 0 ∷ []
+abbrev pub single_numbers : Option ℤ → List ℤ
+single_numbers (Some z) = pos 1 ∷ z ∷ []
+single_numbers None = pos 0 ∷ pos 0 ∷ []
 
 abbrev pub single_fields : BrundhalSingle → List ℤ
 single_fields r = pos r.fits ∷ r.value ∷ []
 
 -- an order: −1 less, 0 equal, 1 greater
-abbrev pub order_number : Order → ℤ
+abbrev pub order_number : Ordering → ℤ
 order_number Less = negsuc 0
 order_number Equal = pos 0
 order_number Greater = pos 1

@@ -1,9 +1,8 @@
 -- The answers of writing as plain numbers, numbered as documents 01 and 02 number them.
-use Rattle.std.specs.Prelude.{List, [], ◌∷◌, ℕ, ◌≤◌, length}
+use Rattle.std.specs.Prelude.{List, [], ◌∷◌, ℕ, ◌≤◌, length, Result, Ok, Err}
 use Rattle.lot_format.specs.Format.{lot_file}
 use Rattle.lot_format.specs.Writing.{unwritable_number, Writing, file_of, writing_number}
-use Rattle.lot_writer.specs.declared.Written.{Written}
-use Rattle.lot_writer.specs.declared.Written.TheVariants.{Length, Refused}
+use Rattle.lot_writer.specs.declared.Unwritable.{Unwritable}
 use Rattle.lot_writer.specs.Meaning.{Answer, length_is, refuses}
 use Rattle.brundhal_written_answers.specs.declared.BrundhalWritten.{BrundhalWritten}
 
@@ -21,6 +20,6 @@ abbrev pub answer_numbers : Answer → List ℕ
 answer_numbers (length_is n) = 0 ∷ n ∷ []
 answer_numbers (refuses r) = unwritable_number r ∷ 0 ∷ []
 
-abbrev pub ShortAnswer : Written → Type 0
-ShortAnswer (Length n) = n ≤ lot_file.bytes
-ShortAnswer (Refused r) = Unit
+abbrev pub ShortAnswer : Result ℕ Unwritable → Type 0
+ShortAnswer (Ok n) = n ≤ lot_file.bytes
+ShortAnswer (Err r) = Unit

@@ -2,39 +2,41 @@
 // Every answer is an equation with `Numbers` of the crate `lot_format`.
 #![tactic(auto)]
 
-ghost use Rattle.std.specs.Prelude.{◌≡◌, ◌+◌, ◌≤◌, ◌<◌, length, take, drop};
+ghost use Rattle.std.specs.Prelude.{◌≡◌, ◌+◌, ◌≤◌, ℕ, length, take, drop};
 ghost use Rattle.lot_format.specs.Numbers.{number, signed};
 
-// A byte, widened.
-fn wide(b: u8) -> u32
-    ensures { (result ≡ b) × (result < 256) }
-{
-    b as u32
-}
-
 // The number of two bytes, low byte first.
-pub fn short_at(file: &[u8], at: usize) -> u32
+pub fn short_at(file: &[u8], at: usize) -> u16
     requires { at + 2 ≤ length file.now }
-    ensures { (result ≡ number (take 2 (drop at file.now))) × (result < 65536) }
+    ensures { result ≡ number (take 2 (drop at file.now)) }
 {
-    wide(file[at]) + 256 * wide(file[at + 1])
+    u16::from_le_bytes([file[at], file[at + 1]])
 }
 
-// The number of four bytes, low byte first.
-pub fn word_at(file: &[u8], at: usize) -> u32
-    requires { at + 4 ≤ length file.now }
-    ensures { result ≡ number (take 4 (drop at file.now)) }
-{
-    short_at(file, at) + 65536 * short_at(file, at + 2)
+// A number of four bytes, signed or not.
+pub trait Word: Copy {
+    // the number that an unsigned number's bits stand for
+    ghost held: { ℕ → Self };
+
+    // The number of four bytes, low byte first.
+    fn word_at(file: &[u8], at: usize) -> Self
+        requires { at + 4 ≤ length file.now }
+        ensures { result ≡ held (number (take 4 (drop at file.now))) };
 }
 
-// The signed number whose two's complement the bits are.
-pub fn signed_word(x: u32) -> i32
-    ensures { result ≡ signed x }
-{
-    if x < 2147483648 {
-        x as i32
-    } else {
-        -1 - (4294967295 - x) as i32
+impl Word for u32 {
+    ghost held = { λ x. x };
+
+    fn word_at(file: &[u8], at: usize) -> u32 {
+        u32::from_le_bytes([file[at], file[at + 1], file[at + 2], file[at + 3]])
+    }
+}
+
+// A signed number is the one whose two's complement the bits are.
+impl Word for i32 {
+    ghost held = { λ x. signed x };
+
+    fn word_at(file: &[u8], at: usize) -> i32 {
+        u32::word_at(file, at).cast_signed()
     }
 }

@@ -1,53 +1,51 @@
-// Bytes laid over lent space from a place on; each function returns the place behind them. An inner crate: its callers see that there is
-// room. Numbers stand low byte first, as `Numbers` of the crate `lot_format` has it.
+// Bytes written to lent space one behind the other. An inner crate: its callers see that there is room. Numbers stand low byte first, as
+// `Numbers` of the crate `lot_format` has it.
 #![tactic(auto)]
 
-ghost use Rattle.std.specs.Prelude.{◌≡◌, [], ◌∷◌, ◌+◌, ◌%◌, ◌≤◌, ◌<◌, length};
+ghost use Rattle.std.specs.Prelude.{◌≡◌, [], ◌∷◌};
 ghost use Rattle.lot_format.specs.Numbers.{number_bytes};
-ghost use Rattle.bytes_output.specs.Behind.{Laid};
+ghost use Rattle.bytes_output.specs.Behind.{Room, Laid};
 
-// One byte.
-pub fn byte(out: &mut [u8], at: usize, b: u8) -> usize
-    requires { at + 1 ≤ length out.old }
-    ensures { Laid at (b ∷ []) out.old out.new result }
-{
-    out[at] = b;
-    at + 1
+// Lent space, with the place behind what is written. That there is room is asked of each text: no type can hold it, since it is another text each time.
+#[derive(Drop)]
+pub struct Output<'a> {
+    pub space: &'a mut [u8],
+    pub at: usize,
 }
 
-// A run of bytes.
-pub fn bytes(out: &mut [u8], at: usize, xs: &[u8]) -> usize
-    requires { at + length xs.now ≤ length out.old }
-    ensures { Laid at xs.now out.old out.new result }
-{
-    for k in 0..xs.len() {
-        let b = xs[k];
-        out[at + k] = b;
+impl Output<'_> {
+    // One byte.
+    pub fn byte(&mut self, b: u8)
+        requires { Room self.old (b ∷ []) }
+        ensures { Laid self.old (b ∷ []) self.new }
+    {
+        self.space[self.at] = b;
+        self.at += 1;
     }
-    at + xs.len()
-}
 
-// The last byte of a number.
-fn low(x: u32) -> u8
-    ensures { result ≡ x % 256 }
-{
-    (x % 256) as u8
-}
+    // A run of bytes.
+    pub fn bytes(&mut self, xs: &[u8])
+        requires { Room self.old xs.now }
+        ensures { Laid self.old xs.now self.new }
+    {
+        let end = self.at + xs.len();
+        self.space[self.at..end].copy_from_slice(xs);
+        self.at = end;
+    }
 
-// The two bytes of a number.
-pub fn short(out: &mut [u8], at: usize, x: u32) -> usize
-    requires { (at + 2 ≤ length out.old) × (x < 65536) }
-    ensures { Laid at (number_bytes 2 x) out.old out.new result }
-{
-    let next = byte(out, at, low(x));
-    byte(out, next, low(x / 256))
-}
+    // The two bytes of a number.
+    pub fn short(&mut self, n: u16)
+        requires { Room self.old (number_bytes 2 n) }
+        ensures { Laid self.old (number_bytes 2 n) self.new }
+    {
+        self.bytes(&n.to_le_bytes());
+    }
 
-// The four bytes of a number.
-pub fn word(out: &mut [u8], at: usize, x: u32) -> usize
-    requires { at + 4 ≤ length out.old }
-    ensures { Laid at (number_bytes 4 x) out.old out.new result }
-{
-    let next = short(out, at, x % 65536);
-    short(out, next, x / 65536)
+    // The four bytes of a number.
+    pub fn word(&mut self, x: u32)
+        requires { Room self.old (number_bytes 4 x) }
+        ensures { Laid self.old (number_bytes 4 x) self.new }
+    {
+        self.bytes(&x.to_le_bytes());
+    }
 }

@@ -1,5 +1,5 @@
 -- What follows from the tests of the definitions. Assumes nothing.
-use mathlib.Core.Path.{◌≡◌}
+use mathlib.Core.Path.{◌≡◌, sym, ◌∙◌}
 use mathlib.Core.Bool.{Bool, true, ◌&&◌, and-eq-true_iff}
 use Prim.Native.Nat.{ℕ, ◌^◌, ◌<◌, ◌≤◌}
 use native.Mathlib.Omega.{arith}
@@ -28,3 +28,10 @@ bounded depth q n cell corner =
     let b = both (ltb q.b (2 ^ q.level)) _ a.1 in
     let first = both (leb 1 n) _ corner in
     omega (arith, leb-true, ltb-true, pow_mono (leb-true q.level depth level.0))
+
+-- by the tests of the code, as they are joined where a move is made
+pub corner_bounded : (depth : ℕ) (q : Address) (n : ℕ) {cell corner : Bool} → cell ≡ is_cell depth q → corner ≡ is_corner n → (cell && corner) ≡ true → Bounded depth q n
+corner_bounded depth q n e f t = let tests = both _ _ t in bounded depth q n (sym e ∙ tests.0) (sym f ∙ tests.1)
+
+pub child_bounded : (depth : ℕ) (q : Address) (n : ℕ) {cell corner : Bool} (coarser : Bool) → cell ≡ is_cell depth q → corner ≡ is_corner n → (cell && (coarser && corner)) ≡ true → Bounded depth q n
+child_bounded depth q n coarser e f t = let tests = both _ _ t in bounded depth q n (sym e ∙ tests.0) (sym f ∙ (both _ _ tests.1).1)

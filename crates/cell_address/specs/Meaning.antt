@@ -1,17 +1,16 @@
 -- What the code's addresses and answers stand for in the definitions.
-use Rattle.std.specs.Prelude.{true, false, ℕ, ◌+◌, ◌-◌}
+use Rattle.std.specs.Prelude.{true, false, ℕ, ◌+◌, ◌-◌, Result, Ok, Err}
 use Rattle.definitions.specs.Jacobian.{side}
 use Rattle.definitions.specs.Address.{Address, Move}
 use Rattle.cell_address.specs.declared.Address.{Address as Held}
-use Rattle.cell_address.specs.declared.Moved.{Moved}
-use Rattle.cell_address.specs.declared.Moved.TheVariants.{To, Not}
 
 abbrev pub address_of : Held → Address
 address_of q = record { level = q.level; a = q.a; b = q.b; c = q.c }
 
-abbrev pub move_of : Moved → Move
-move_of (To q) = record { made = true; address = address_of q }
-move_of (Not q) = record { made = false; address = address_of q }
+-- the answer of a move: where it led to, or the same address where it can't be made
+abbrev pub move_of : Result Held Held → Move
+move_of (Ok q) = record { made = true; address = address_of q }
+move_of (Err q) = record { made = false; address = address_of q }
 
 -- the grid numbers plus the place, 0 or 1 on each axis, of the corner or child that the documents number n
 abbrev pub offset_by : Address → ℕ → Address

@@ -1,7 +1,7 @@
 // Cell addresses and their moves.
 // The reference cube is the cell of level 0, and a cell cut into eight gives cells one level finer (document 01 says "cube" for a cell
 // of any level). The crate offers `Address` with the moves `child`, `corner` and `parent`. Each takes the address by value and hands back
-// the moved one, or the same one where the move can't be made. The moves ask nothing of the caller: any address and any number is
+// the moved one as `Ok`, or the same one as `Err` where the move can't be made. The moves ask nothing of the caller: any address and any number is
 // answered, as `child_address`, `corner_address` and `parent_address` of the definitions say.
 #![tactic(auto)]
 
@@ -13,21 +13,12 @@ ghost use Rattle.cell_address.specs.Meaning.{address_of, move_of, offset_by};
 use limits::MAX_DEPTH;
 
 // A level and the grid numbers of a point, in steps of 1/2^level: of a cell its lowest corner.
-#[derive(Clone, Copy)]
+#[derive(Clone, Copy, Debug, PartialEq, Eq)]
 pub struct Address {
     pub level: u32,
     pub a: u32,
     pub b: u32,
     pub c: u32,
-}
-
-// The answer of a move.
-#[derive(Clone, Copy)]
-pub enum Moved {
-    // The move was made, and led to this address.
-    To(Address),
-    // The move can't be made from this address.
-    Not(Address),
 }
 
 // 2^level: how many cells of a level stand along an axis.
@@ -66,7 +57,7 @@ impl Address {
     }
 
     // Child n, 1 to 8, of a cell that is not of the finest level: one level finer, at twice the grid numbers plus its place.
-    pub fn child(self, n: u32) -> Moved
+    pub fn child(self, n: u32) -> Result<Address, Address>
         ensures { move_of result ≡ child_address base.depth (address_of self) n }
     {
         if self.is_cell() & ((self.level < MAX_DEPTH) & cell_corners::is_corner(n)) {
@@ -76,36 +67,36 @@ impl Address {
                 b: 2 * self.b,
                 c: 2 * self.c,
             };
-            Moved::To(doubled.offset(n))
+            Ok(doubled.offset(n))
         } else {
-            Moved::Not(self)
+            Err(self)
         }
     }
 
     // Corner n, 1 to 8, of a cell: a grid point of the cell's level, whose numbers may reach 2^level.
-    pub fn corner(self, n: u32) -> Moved
+    pub fn corner(self, n: u32) -> Result<Address, Address>
         ensures { move_of result ≡ corner_address base.depth (address_of self) n }
     {
         if self.is_cell() & cell_corners::is_corner(n) {
-            Moved::To(self.offset(n))
+            Ok(self.offset(n))
         } else {
-            Moved::Not(self)
+            Err(self)
         }
     }
 
     // The parent of a cell that is not the whole: one level coarser, at half the grid numbers, rounded down.
-    pub fn parent(self) -> Moved
+    pub fn parent(self) -> Result<Address, Address>
         ensures { move_of result ≡ parent_address base.depth (address_of self) }
     {
         if self.is_cell() & (1 <= self.level) {
-            Moved::To(Address {
+            Ok(Address {
                 level: self.level - 1,
                 a: self.a / 2,
                 b: self.b / 2,
                 c: self.c / 2,
             })
         } else {
-            Moved::Not(self)
+            Err(self)
         }
     }
 }

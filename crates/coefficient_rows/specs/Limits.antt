@@ -22,7 +22,7 @@ pub record WithinLimits (vs : List ℤ) : Type 0 where
 -- the most that the entries of a list come to
 abbrev pub reach : List Entry → ℕ
 reach [] = 0
-reach (e ∷ es) = nat_abs e.value * limit_at e.column + reach es
+reach (e ∷ es) = nat_abs e.1 * limit_at e.0 + reach es
 
 pub row_reach : (n : ℕ) → n < 27 → reach (sparse_row n) < signed_limit
 row_reach n h = ltb→lt (reach (sparse_row n)) signed_limit (below (λ n. ltb (reach (sparse_row n)) signed_limit) 27 tt n h)

@@ -1,40 +1,39 @@
 -- Document 02, No. 3: "the 27 lists are shown over the whole table to hold all 112 such places, each once, and no other".
-use Rattle.std.specs.Prelude.{◌≡◌, refl, Bool, true, false, List, [], ◌∷◌, ℕ, zero, suc, ◌+◌, ◌*◌, ◌<◌, ◌≤◌, eqb, get_or, drop, length, ℤ, pos, negsuc}
-use Rattle.std.proofs.Common.{◌∙◌, ap, arith, eq-eqb, ne_eqb, length-take, get_or-take, get_or-drop}
+use Rattle.std.specs.Prelude.{◌≡◌, refl, Bool, true, false, List, [], ◌∷◌, ◌++◌, ℕ, zero, suc, ◌+◌, ◌*◌, ◌<◌, ◌≤◌, eqb, get_or, drop, length, ℤ, pos, negsuc}
+use Rattle.std.proofs.Common.{◌∙◌, ap, ap₂, arith, eq-eqb, ne_eqb, length-take, get_or-take, get_or-drop}
 use Rattle.std.proofs.Math.ListN.{get_or-eq_default}
-use Rattle.foundation.specs.Lists.{concat_map, tabulate}
+use Rattle.foundation.specs.Lists.{All, concat_map, tabulate, all_tabulate}
 use Rattle.definitions.specs.Coefficients.{table, row}
-use Rattle.coefficient_table.specs.Sparse.{Entry, is_zero, kept, non_zero_from, sparse_row, AreSparseRows, entries, held_row}
-use Rattle.coefficient_table.specs.SparseRuns.{transfer, row_held}
+use Rattle.coefficient_table.specs.Sparse.{Entry, is_zero, kept, non_zero_from, sparse_row, AreSparseRows}
 
 -- the numbers that a list has at place k
 abbrev pub values_at : ℕ → List Entry → List ℤ
 values_at k [] = []
-values_at k (e ∷ es) = elim (eqb e.column k) [ true ↦ e.value ∷ values_at k es | false ↦ values_at k es ]
+values_at k (e ∷ es) = elim (eqb e.0 k) [ true ↦ e.1 ∷ values_at k es | false ↦ values_at k es ]
 
 -- a number by itself, or nothing if it is 0
 abbrev pub unless_zero : ℤ → List ℤ
 unless_zero c = elim (is_zero c) [ true ↦ [] | false ↦ c ∷ [] ]
 
--- of runs that hold 27 lists
-pub record AllOnce (starts columns : List ℕ) (values : List ℤ) : Type 0 where
-  -- "112": so many numbers of the table are not 0, and so many entries the runs have
-  pub number : (length (non_zero_from 0 table) ≡ 112) × (length columns ≡ 112) × (length values ≡ 112)
-  -- the 27 lists, one after the other, are all of these entries
-  pub whole : concat_map (held_row starts columns values) (tabulate (λ n. n) 0 27) ≡ entries columns values 0 112
+-- of 27 lists
+pub record AllOnce (rows : ℕ → List Entry) : Type 0 where
+  -- "112": so many numbers of the table are not 0, and so many entries the 27 lists have, one after the other
+  pub number : (length (non_zero_from 0 table) ≡ 112) × (length (concat_map rows (tabulate (λ n. n) 0 27)) ≡ 112)
+  -- laid end to end they are all the entries of the table's rows
+  pub whole : concat_map rows (tabulate (λ n. n) 0 27) ≡ concat_map sparse_row (tabulate (λ n. n) 0 27)
   -- "all .. such places, each once, and no other": at each place of its row a list has the table's number, once, or nothing where that is 0
-  pub once : (n k : ℕ) → n < 27 → k < 20 → values_at k (held_row starts columns values n) ≡ unless_zero (get_or table (20 * n + k) (pos 0))
+  pub once : (n k : ℕ) → n < 27 → k < 20 → values_at k (rows n) ≡ unless_zero (get_or table (20 * n + k) (pos 0))
   -- and nothing past the row's 20 places
-  pub none_past : (n k : ℕ) → n < 27 → 20 ≤ k → values_at k (held_row starts columns values n) ≡ []
+  pub none_past : (n k : ℕ) → n < 27 → 20 ≤ k → values_at k (rows n) ≡ []
 
 -- ---- the non-zero places of any list of numbers
 abbrev cons_if : Bool → ℤ → List ℤ → List ℤ
 cons_if b c l = elim b [ true ↦ c ∷ l | false ↦ l ]
 
-here : (k : ℕ) (c : ℤ) (es : List Entry) → values_at k (record { column = k; value = c } ∷ es) ≡ c ∷ values_at k es
+here : (k : ℕ) (c : ℤ) (es : List Entry) → values_at k ((k, c) ∷ es) ≡ c ∷ values_at k es
 here k c es = ap (λ (b : Bool). cons_if b c (values_at k es)) (eq-eqb k k refl)
 
-elsewhere : (j k : ℕ) (c : ℤ) (es : List Entry) → (k ≡ j → ⊥) → values_at j (record { column = k; value = c } ∷ es) ≡ values_at j es
+elsewhere : (j k : ℕ) (c : ℤ) (es : List Entry) → (k ≡ j → ⊥) → values_at j ((k, c) ∷ es) ≡ values_at j es
 elsewhere j k c es h = ap (λ (b : Bool). cons_if b c (values_at j es)) (ne_eqb k j h)
 
 kept_here : (k : ℕ) (c : ℤ) (es : List Entry) → values_at k es ≡ [] → values_at k (kept k c es) ≡ unless_zero c
@@ -69,10 +68,17 @@ entry_of n k h = get_or-take 20 (drop (20 * n) table) k (pos 0) h ∙ get_or-dro
 zero_past : (n k : ℕ) → 20 ≤ k → get_or (row n) k (pos 0) ≡ pos 0
 zero_past n k h = get_or-eq_default (row n) (pos 0) (omega (arith, length-take 20 (drop (20 * n) table)))
 
-pub all_once : {starts columns : List ℕ} {values : List ℤ} → AreSparseRows starts columns values → AllOnce starts columns values
-all_once h = record {
-  number = transfer h (λ s c v. (length (non_zero_from 0 table) ≡ 112) × (length c ≡ 112) × (length v ≡ 112)) (refl, refl, refl);
-  whole = transfer h (λ s c v. concat_map (held_row s c v) (tabulate (λ n. n) 0 27) ≡ entries c v 0 112) refl;
-  once = λ n k l m. ap (values_at k) (row_held h n l) ∙ values_of n k ∙ ap unless_zero (entry_of n k m);
-  none_past = λ n k l m. ap (values_at k) (row_held h n l) ∙ values_of n k ∙ ap unless_zero (zero_past n k m);
+concat_map_cong : {A B : Type 0} (f g : A → List B) (P : A → Type 0) → ((x : A) → P x → f x ≡ g x) → (xs : List A) → All P xs → concat_map f xs ≡ concat_map g xs
+concat_map_cong f g P h [] a = refl
+concat_map_cong f g P h (x ∷ xs) a = ap₂ ◌++◌ (h x a.0) (concat_map_cong f g P h xs a.1)
+
+pub all_once : {rows : ℕ → List Entry} → AreSparseRows rows → AllOnce rows
+all_once {rows} h = record {
+  number = (refl, ap length end_to_end);
+  whole = end_to_end;
+  once = λ n k l m. ap (values_at k) (h.same n l) ∙ values_of n k ∙ ap unless_zero (entry_of n k m);
+  none_past = λ n k l m. ap (values_at k) (h.same n l) ∙ values_of n k ∙ ap unless_zero (zero_past n k m);
 }
+  where
+    end_to_end : concat_map rows (tabulate (λ n. n) 0 27) ≡ concat_map sparse_row (tabulate (λ n. n) 0 27)
+    end_to_end = concat_map_cong rows sparse_row (λ n. n < 27) h.same (tabulate (λ n. n) 0 27) (all_tabulate (λ n. n < 27) (λ n. n) 0 27 (λ k p q. q))

@@ -9,7 +9,7 @@ use Rattle.coefficient_table.specs.Sparse.{Entry, kept, non_zero_from, sparse_ro
 -- the entries of a list against the volumes
 abbrev pub sparse_dot : List ℤ → List Entry → ℤ
 sparse_dot vs [] = pos 0
-sparse_dot vs (e ∷ es) = e.value *ℤ get_or vs e.column (pos 0) +ℤ sparse_dot vs es
+sparse_dot vs (e ∷ es) = e.1 *ℤ get_or vs e.0 (pos 0) +ℤ sparse_dot vs es
 
 kept_dot : (vs : List ℤ) (k : ℕ) (c : ℤ) (es : List Entry) → sparse_dot vs (kept k c es) ≡ c *ℤ get_or vs k (pos 0) +ℤ sparse_dot vs es
 kept_dot vs k (pos zero) es = sym (ap (λ (x : ℤ). x +ℤ sparse_dot vs es) (zero-*ℤ (get_or vs k (pos 0))) ∙ +ℤ_idl (sparse_dot vs es))

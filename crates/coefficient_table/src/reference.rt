@@ -1,7 +1,7 @@
 // The table in full.
 ghost use Rattle.coefficient_table.specs.Table.{IsTable};
 
-// 27 rows of 20 entries: eight for the corners' volumes, then twelve for the edges'. A row's number and name stand at its first entry.
+// 27 rows of 20 entries, in one run as `IsTable` has them: eight for the corners' volumes, then twelve for the edges'. A row's number and name stand at its first entry.
 pub const TABLE: [i64; 540] = [
     8, // 1: corner 1
     0, 0, 0, 0, 0, 0, 0, 0, 0, 0, 0, 0, 0, 0, 0, 0, 0, 0, 0, 0, // 2: corner 2

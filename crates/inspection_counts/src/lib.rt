@@ -9,7 +9,7 @@ ghost use Rattle.definitions.specs.Mesh.{stamp_of};
 ghost use Rattle.inspection_counts.specs.Meaning.{counts_held, stamp_held};
 
 // The number of records of each kind.
-#[derive(Clone, Copy)]
+#[derive(Clone, Copy, Debug, Default, PartialEq, Eq)]
 pub struct Counts {
     pub valid: u32,
     pub invalid: u32,
@@ -18,7 +18,7 @@ pub struct Counts {
 }
 
 // The stamp of an accepted mesh.
-#[derive(Clone, Copy)]
+#[derive(Clone, Copy, Debug, PartialEq, Eq)]
 pub enum Stamp {
     Sound,
     Faulty,

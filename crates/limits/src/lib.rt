@@ -1,5 +1,5 @@
 // Inner: the limits of the definitions as constants of the code, each once. Those of `base`, `record_words` and `version` in `definitions`, of `lot_file` in
-// `lot_format`, of `ample` in `lot_roundtrip_theory`, of `slip_limits` in `slip_format`, and `one_word_range` and `one_word_depth` in `narrow_points`; a contract that cites the definition is what holds a constant to it.
+// `lot_format`, of `ample` in `lot_roundtrip_theory`, of `slip_limits` in `slip_format`, and `one_word_range` and `one_word_depth` in `cell_points`; a contract that cites the definition is what holds a constant to it.
 #![tactic(auto)]
 
 // The greatest depth, and so the finest level of an address.
@@ -50,8 +50,3 @@ pub const SLIP_BYTES: usize = 262144;
 
 // The version of what a caller sees.
 pub const VERSION: u32 = 2;
-
-// The words of the greatest number of two words.
-pub const GREATEST_LOW: u64 = 18446744073709551615;
-
-pub const GREATEST_HIGH: u64 = 9223372036854775807;

@@ -35,9 +35,6 @@ module _ {elements names lengths offsets : List ℕ} (g : Grouped elements names
 
   module _ {k done named : ℕ} (a : Among elements names lengths offsets k done named) where
     -- the elements behind the last group
-    pub last_eights : length (take (length elements - done) (drop done elements)) % 8 ≡ 0
-    last_eights = simp (length-take, length-drop) (omega (arith, a.eights, a.placed, g.eights))
-
     pub last_next : length lengths ≤ k → Next (left_among elements names lengths offsets k done named) (element_entries (take (length elements - done) (drop done elements))) []
     last_next h =
         last (ap (λ (ls : List ℕ). grouped_entries (done / 8) (groups_of (drop named names) ls (drop k offsets)) (drop done elements)) (drop_of_length-le lengths h)
@@ -68,9 +65,6 @@ module _ {elements names lengths offsets : List ℕ} (g : Grouped elements names
 
       pub names_to : named + long ≤ length names
       names_to = omega (arith, total_next lengths k h, a.sums)
-
-      pub part_eights : length (take (8 * before - done) (drop done elements)) % 8 ≡ 0
-      part_eights = simp (length-take, length-drop) (omega (arith, a.eights, elements_to))
 
       pub name_short : length (take (named + long - named) (drop named names)) < 65536
       name_short = simp length-take (omega (arith, leb-true long 32 short_here.0))

@@ -1,76 +1,70 @@
-// Runs of entries of a lot file, laid over lent space from a place on; each function returns the place behind what it wrote. An inner crate:
-// its callers see that there is room. Every text is one of `Format` of the crate `lot_format`.
+// Runs of entries of a lot file, written to lent space. An inner crate: its callers see that there is room. Every text is one of `Format` of
+// the crate `lot_format`.
 #![tactic(auto)]
 
-ghost use Rattle.std.specs.Prelude.{◌≡◌, ◌++◌, ◌+◌, ◌%◌, ◌≤◌, ◌<◌, length};
-ghost use Rattle.lot_format.specs.Format.{GR, entry_bytes, node_entries, element_entries, grouped_entries};
-ghost use Rattle.lot_format.specs.Runs.{groups_of};
-ghost use Rattle.bytes_output.specs.Behind.{Laid};
+ghost use Rattle.std.specs.Prelude.{◌≡◌, ◌++◌, ◌*◌, ◌/◌, ◌%◌, ◌<◌, map, length};
+ghost use Rattle.lot_format.specs.Numbers.{unsigned_bytes};
+ghost use Rattle.lot_format.specs.Format.{GR, entry_bytes, entries, node_entries, element_entries, grouped_entries};
+ghost use Rattle.lot_marks.specs.Meaning.{mark_held};
+ghost use Rattle.lot_runs.specs.Meaning.{groups_held};
+ghost use Rattle.bytes_output.specs.Behind.{Room, Laid};
 ghost use Rattle.lot_entries_writer.specs.Meaning.{Grouped};
 
-// The entries of nodes.
-pub fn put_nodes(out: &mut [u8], at: usize, nodes: &[i32]) -> usize
-    requires { (length nodes.now % 3 ≡ 0) × (at + length (node_entries nodes.now) ≤ length out.old) }
-    ensures { Laid at (node_entries nodes.now) out.old out.new result }
+use bytes_output::Output;
+use lot_entry_writer::Word;
+use lot_marks::Mark;
+use lot_runs::Groups;
+
+// The entries of one mark, each with the next n numbers.
+fn put_entries<W: Word>(out: &mut Output, mark: Mark, n: usize, numbers: &[W])
+    requires { (0 < n) × (4 * n < 65536) × Room out.old (entries (mark_held mark) n (λ xs. unsigned_bytes (map W.Word.bits xs)) (length numbers.now / n) numbers.now) }
+    ensures { Laid out.old (entries (mark_held mark) n (λ xs. unsigned_bytes (map W.Word.bits xs)) (length numbers.now / n) numbers.now) out.new }
 {
-    let mut next = at;
-    let mut k = 0;
-    while k < nodes.len() {
-        let end = k + 3;
-        next = lot_entry_writer::put_node(out, next, &nodes[k..end]);
-        k = end;
+    for chunk in numbers.chunks_exact(n) {
+        lot_entry_writer::put_numbers(out, mark, chunk);
     }
-    next
+}
+
+// The entries of nodes.
+pub fn put_nodes(out: &mut Output, nodes: &[i32])
+    requires { Room out.old (node_entries nodes.now) }
+    ensures { Laid out.old (node_entries nodes.now) out.new }
+{
+    put_entries(out, Mark::ND, 3, nodes);
 }
 
 // The entries of elements.
-fn put_elements(out: &mut [u8], at: usize, elements: &[u32]) -> usize
-    requires { (length elements.now % 8 ≡ 0) × (at + length (element_entries elements.now) ≤ length out.old) }
-    ensures { Laid at (element_entries elements.now) out.old out.new result }
+fn put_elements(out: &mut Output, elements: &[u32])
+    requires { Room out.old (element_entries elements.now) }
+    ensures { Laid out.old (element_entries elements.now) out.new }
 {
-    let mut next = at;
-    let mut k = 0;
-    while k < elements.len() {
-        let end = k + 8;
-        next = lot_entry_writer::put_element(out, next, &elements[k..end]);
-        k = end;
-    }
-    next
+    put_entries(out, Mark::HX, 8, elements);
 }
 
 // The elements before a group, and its name.
-fn put_group(out: &mut [u8], at: usize, elements: &[u32], name: &[u8]) -> usize
-    requires { (length elements.now % 8 ≡ 0) × (length name.now < 65536) × (at + length (element_entries elements.now ++ entry_bytes GR name.now) ≤ length out.old) }
-    ensures { Laid at (element_entries elements.now ++ entry_bytes GR name.now) out.old out.new result }
+fn put_group(out: &mut Output, elements: &[u32], name: &[u8])
+    requires { (length name.now < 65536) × Room out.old (element_entries elements.now ++ entry_bytes GR name.now) }
+    ensures { Laid out.old (element_entries elements.now ++ entry_bytes GR name.now) out.new }
 {
-    let next = put_elements(out, at, elements);
-    lot_entry_writer::put_name(out, next, lot_marks::LETTERS_GR, name)
+    put_elements(out, elements);
+    lot_entry_writer::put_entry(out, Mark::GR, name);
 }
 
 // The entries of elements with the groups among them: before each group those that it counts, then its name.
-pub fn put_grouped(
-    out: &mut [u8],
-    at: usize,
-    elements: &[u32],
-    names: &[u8],
-    lengths: &[u32],
-    offsets: &[u32],
-) -> usize
-    requires grouped { Grouped elements.now names.now lengths.now offsets.now }
-    requires elements_in_bounds { at + length (grouped_entries 0 (groups_of names.now lengths.now offsets.now) elements.now) ≤ length out.old }
-    ensures { Laid at (grouped_entries 0 (groups_of names.now lengths.now offsets.now) elements.now) out.old out.new result }
+pub fn put_grouped(out: &mut Output, elements: &[u32], groups: Groups)
+    requires grouped { Grouped elements.now groups.names.now groups.lengths.now groups.offsets.now }
+    requires elements_in_bounds { Room out.old (grouped_entries 0 (groups_held groups) elements.now) }
+    ensures { Laid out.old (grouped_entries 0 (groups_held groups.entry) elements.now) out.new }
 {
-    let mut next = at;
     let mut done = 0;
     let mut named = 0;
-    let mut k = 0;
-    while k < lengths.len() {
-        let end = 8 * offsets[k] as usize;
-        let name_end = named + lengths[k] as usize;
-        next = put_group(out, next, &elements[done..end], &names[named..name_end]);
+    // By number: zipped lists would want an invariant over the iterator, of which `Among` does not speak.
+    for (k, len) in groups.lengths.iter().enumerate() {
+        let end = 8 * groups.offsets[k] as usize;
+        let name_end = named + *len as usize;
+        put_group(out, &elements[done..end], &groups.names[named..name_end]);
         done = end;
         named = name_end;
-        k += 1;
     }
-    put_elements(out, next, &elements[done..])
+    put_elements(out, &elements[done..]);
 }

@@ -1,16 +1,12 @@
 -- What is left from a place on, and a name from one of its bytes on. Assumes nothing.
 use mathlib.Core.Path.{◌≡◌, refl, sym, ◌∙◌, ap, ap₂}
 use mathlib.Core.Bool.{Bool, true, false, ◌&&◌}
-use mathlib.Core.List.{List}
-use mathlib.Core.Option.{none}
-use Prim.Native.Nat.{ℕ, ◌+◌, ◌-◌, ◌*◌, ◌/◌, ◌%◌, ◌<◌}
+use mathlib.Core.List.{List, [], ◌∷◌}
+use Rattle.std.specs.List.{list_all}
+use Prim.Native.Nat.{ℕ, ◌+◌, ◌-◌, ◌/◌, ◌%◌}
 use native.Mathlib.Omega.{arith}
-use borrow.Author.Tests.{eqb-true}
-use lib.Dec.{eqb}
 use lib.ListN.{get_or, length, take, drop, length-drop}
-use lib.Seq.{drop-drop, drop-length, get_or-drop}
-use Rattle.foundation.specs.Lists.{drop_next}
-use Rattle.lot_format.specs.Numbers.{number}
+use lib.Seq.{drop-drop, get_or-drop}
 use Rattle.lot_format.specs.Format.{mark_of, name_byte, name_bytes}
 
 -- the mark, and what is left, from a place on
@@ -23,12 +19,11 @@ length_rest xs at n = ap length (drop-drop n at xs) ∙ length-drop (at + n) xs
 pub part_is_body : (xs : List ℕ) (at len : ℕ) → take (at + 4 + len - (at + 4)) (drop (at + 4) xs) ≡ take len (drop 4 (drop at xs))
 part_is_body xs at len = let e : at + 4 + len - (at + 4) ≡ len = omega arith in rw (e, drop-drop 4 at xs)
 
--- a name from its byte k on
-pub name_right : (name : List ℕ) (k : ℕ) → k < length name → name_byte (get_or name k 0) ≡ true → name_bytes (drop k name) ≡ name_bytes (drop (k + 1) name)
-name_right name k h e = rw (drop_next name k 0 h, e, name_bytes)
-
-pub name_wrong : (name : List ℕ) (k : ℕ) → k < length name → name_byte (get_or name k 0) ≡ false → name_bytes (drop k name) ≡ false
-name_wrong name k h e = rw (drop_next name k 0 h, e, name_bytes)
-
-pub name_over : (name : List ℕ) (k : ℕ) → k ≡ length name → name_bytes (drop k name) ≡ true
-name_over name k e = rw (e, drop-length)
+-- all bytes of a name, tested one by one
+pub name_bytes_all : (name : List ℕ) → list_all name_byte name ≡ name_bytes name
+name_bytes_all [] = refl
+name_bytes_all (b ∷ bs) = go (name_byte b) (name_bytes_all bs)
+  where
+    go : (t : Bool) → list_all name_byte bs ≡ name_bytes bs → (t && list_all name_byte bs) ≡ elim t [ true ↦ name_bytes bs | false ↦ false ]
+    go true e = e
+    go false e = refl

@@ -6,15 +6,15 @@
 ghost use Rattle.std.specs.Prelude.{◌≡◌, true, ◌+◌, ◌/◌, ◌%◌, ◌≤◌, ◌<◌, length, get_or, take, drop};
 ghost use Rattle.lot_format.specs.Numbers.{number};
 ghost use Rattle.lot_format.specs.Format.{lot_file, mark_of, right_length, name_byte, name_bytes};
-ghost use Rattle.lot_format.specs.Reading.{name_fault, body_fault, body_of, known_of, entry_of};
+ghost use Rattle.lot_format.specs.Reading.{unreadable_number, name_fault, body_fault, body_of, known_of, entry_of};
 ghost use Rattle.lot_marks.specs.Meaning.{mark_held, marked_held, stage_held};
-ghost use Rattle.lot_entry_reader.specs.Meaning.{fault_held, entry_held, Within};
+ghost use Rattle.lot_entry_reader.specs.Meaning.{unreadable_held, fault_held, entry_held, Within};
 
 use limits::MAX_ELEMENTS;
-use lot_marks::{Mark, Marked, Stage};
+use lot_marks::{Mark, Stage};
 
 // Why a lot is refused.
-#[derive(Clone, Copy)]
+#[derive(Clone, Copy, Debug, PartialEq, Eq)]
 pub enum Unreadable {
     TooLong,
     CutShort,
@@ -26,18 +26,29 @@ pub enum Unreadable {
     NoRoom,
 }
 
-// Whether a body is as it should be.
-#[derive(Clone, Copy)]
-enum Body {
-    Right,
-    Wrong(Unreadable),
+// The number of a refusal.
+impl From<Unreadable> for u32 {
+    ghost from_gives = { λ r n. n ≡ unreadable_number (unreadable_held r) };
+
+    fn from(r: Unreadable) -> u32 {
+        match r {
+            Unreadable::TooLong => 20,
+            Unreadable::CutShort => 21,
+            Unreadable::UnknownMark => 22,
+            Unreadable::WrongLength => 23,
+            Unreadable::OutOfPlace => 24,
+            Unreadable::BadByte => 25,
+            Unreadable::TooManyElements => 26,
+            Unreadable::NoRoom => 27,
+        }
+    }
 }
 
-// What stands at a place of the file: a fault, or a whole entry, by its mark and the length of its body.
-#[derive(Clone, Copy)]
-pub enum Entry {
-    Faulty(Unreadable),
-    Whole(Mark, usize),
+// A whole entry: its mark and the length of its body.
+#[derive(Clone, Copy, Debug, PartialEq, Eq)]
+pub struct Entry {
+    pub mark: Mark,
+    pub len: usize,
 }
 
 // Whether a byte may stand in a label or a group's name.
@@ -51,51 +62,37 @@ fn name_byte(b: u8) -> bool
 pub fn name_bytes(name: &[u8]) -> bool
     ensures { result ≡ name_bytes name.now }
 {
-    for k in 0..name.len() {
-        let b = name[k];
-        if !name_byte(b) {
-            return false;
-        }
-    }
-    true
+    name.iter().all(|b| name_byte(*b))
 }
 
 // The fault of a label or a group's name.
-fn name_fault(name: &[u8]) -> Body
+fn name_fault(name: &[u8]) -> Result<(), Unreadable>
     ensures { fault_held result ≡ name_fault name.now }
 {
     if name_bytes(name) {
-        Body::Right
+        Ok(())
     } else {
-        Body::Wrong(Unreadable::BadByte)
+        Err(Unreadable::BadByte)
     }
 }
 
 // The fault of a whole entry, where so many elements stand before it.
-fn body_fault(mark: Mark, elements: usize, body: &[u8]) -> Body
+fn body_fault(mark: Mark, elements: usize, body: &[u8]) -> Result<(), Unreadable>
     ensures { fault_held result ≡ body_fault lot_file (mark_held mark) elements body.now }
 {
     match mark {
-        Mark::LB => name_fault(body),
-        Mark::ND => Body::Right,
-        Mark::HX => {
-            if elements < MAX_ELEMENTS {
-                Body::Right
-            } else {
-                Body::Wrong(Unreadable::TooManyElements)
-            }
-        }
-        Mark::GR => name_fault(body),
-        Mark::EN => Body::Right,
+        Mark::LB | Mark::GR => name_fault(body),
+        Mark::HX if MAX_ELEMENTS <= elements => Err(Unreadable::TooManyElements),
+        Mark::HX | Mark::ND | Mark::EN => Ok(()),
     }
 }
 
 // The mark of the entry at a place.
-pub fn mark_at(file: &[u8], at: usize) -> Marked
+pub fn mark_at(file: &[u8], at: usize) -> Option<Mark>
     requires { at + 2 ≤ length file.now }
     ensures { marked_held result ≡ mark_of (get_or (drop at file.now) 0 0) (get_or (drop at file.now) 1 0) }
 {
-    lot_marks::mark_of(bytes_input::short_at(file, at))
+    lot_marks::mark_of(u32::from(bytes_input::short_at(file, at)))
 }
 
 // The length that the entry at a place gives for its body.
@@ -103,57 +100,63 @@ pub fn length_at(file: &[u8], at: usize) -> usize
     requires { at + 4 ≤ length file.now }
     ensures { (result ≡ number (take 2 (drop 2 (drop at file.now)))) × (result < 65536) }
 {
-    bytes_input::short_at(file, at + 2) as usize
+    usize::from(bytes_input::short_at(file, at + 2))
 }
 
 // The entry at a place, its mark and length being right: cut short, at fault, or whole.
-fn body_at(file: &[u8], at: usize, mark: Mark, elements: usize, len: usize) -> Entry
+fn body_at(
+    file: &[u8],
+    at: usize,
+    mark: Mark,
+    elements: usize,
+    len: usize,
+) -> Result<Entry, Unreadable>
     requires { (at + 4 ≤ length file.now) × (len < 65536) }
     ensures result_value { entry_held (drop at file.now) result ≡ body_of lot_file (mark_held mark) elements len (drop 4 (drop at file.now)) }
     ensures within { Within (drop at file.now) result }
 {
     let start = at + 4;
     if file.len() - start < len {
-        return Entry::Faulty(Unreadable::CutShort);
+        return Err(Unreadable::CutShort);
     }
-    let body = body_fault(mark, elements, &file[start..start + len]);
-    match body {
-        Body::Right => Entry::Whole(mark, len),
-        Body::Wrong(r) => Entry::Faulty(r),
-    }
+    body_fault(mark, elements, &file[start..start + len])?;
+    Ok(Entry { mark, len })
 }
 
 // The entry at a place, its mark being known.
-fn known_at(file: &[u8], at: usize, stage: Stage, mark: Mark, elements: usize) -> Entry
+fn known_at(
+    file: &[u8],
+    at: usize,
+    stage: Stage,
+    mark: Mark,
+    elements: usize,
+) -> Result<Entry, Unreadable>
     requires { at + 4 ≤ length file.now }
     ensures result_value { entry_held (drop at file.now) result ≡ known_of lot_file (stage_held stage) (mark_held mark) elements (drop at file.now) }
     ensures within { Within (drop at file.now) result }
 {
     let len = length_at(file, at);
     let right = lot_marks::right_length(mark, len);
-    let placed = lot_marks::in_place(stage, mark);
-    if !placed {
-        return Entry::Faulty(Unreadable::OutOfPlace);
+    if !lot_marks::in_place(stage, mark) {
+        return Err(Unreadable::OutOfPlace);
     }
     if !right {
-        return Entry::Faulty(Unreadable::WrongLength);
+        return Err(Unreadable::WrongLength);
     }
-    let n = lot_marks::body_length(mark, len);
-    body_at(file, at, mark, elements, n)
+    body_at(file, at, mark, elements, lot_marks::body_length(mark, len))
 }
 
 // What stands at a place of the file, where so many elements stand before it.
-pub fn entry_at(file: &[u8], at: usize, stage: Stage, elements: usize) -> Entry
+pub fn entry_at(file: &[u8], at: usize, stage: Stage, elements: usize) -> Result<Entry, Unreadable>
     requires { at ≤ length file.now }
     ensures result_value { entry_held (drop at file.now) result ≡ entry_of lot_file (stage_held stage) elements (drop at file.now) }
     ensures within { Within (drop at file.now) result }
 {
     if file.len() - at < 4 {
-        return Entry::Faulty(Unreadable::CutShort);
+        return Err(Unreadable::CutShort);
     }
-    let marked = mark_at(file, at);
-    match marked {
-        Marked::Unknown => Entry::Faulty(Unreadable::UnknownMark),
-        Marked::Known(mark) => known_at(file, at, stage, mark, elements),
-    }
+    let Some(mark) = mark_at(file, at) else {
+        return Err(Unreadable::UnknownMark);
+    };
+    known_at(file, at, stage, mark, elements)
 }

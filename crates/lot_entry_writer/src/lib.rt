@@ -1,98 +1,86 @@
-// An entry of a lot file, laid over lent space from a place on; each function returns the place behind what it wrote. An inner crate:
-// its callers see that there is room. Every text is one of `Format` of the crate `lot_format`.
+// An entry of a lot file, written to lent space. An inner crate: its callers see that there is room. Every text is one of `Format` of the
+// crate `lot_format`.
 #![tactic(auto)]
 
-ghost use Rattle.std.specs.Prelude.{◌≡◌, [], ◌++◌, ◌+◌, ◌≤◌, ◌<◌, length};
-ghost use Rattle.lot_format.specs.Numbers.{bits, number_bytes, unsigned_bytes, signed_bytes};
-ghost use Rattle.lot_format.specs.Format.{LB, ND, HX, EN, entry_bytes};
-ghost use Rattle.bytes_output.specs.Behind.{Laid};
-ghost use Rattle.lot_entry_writer.specs.Meaning.{entry_with};
+ghost use Rattle.std.specs.Prelude.{◌≡◌, ◌++◌, ℕ, map, ◌*◌, ◌<◌, length};
+ghost use Rattle.lot_format.specs.Numbers.{bits, number_bytes, unsigned_bytes};
+ghost use Rattle.lot_format.specs.Format.{letters, entry_bytes};
+ghost use Rattle.lot_marks.specs.Meaning.{mark_held};
+ghost use Rattle.bytes_output.specs.Behind.{Room, Laid};
 
-// The bits of a signed number's two's complement.
-fn bits_of(x: i32) -> u32
-    ensures { result ≡ bits x }
-{
-    if 0 <= x {
-        x as u32
-    } else {
-        4294967295 - (-1 - x) as u32
+use bytes_output::Output;
+use lot_marks::Mark;
+
+// A number of four bytes in an entry, by its bits; those of a signed one are its two's complement.
+pub trait Word: Copy {
+    ghost bits: { Self → ℕ };
+
+    fn bits(self) -> u32
+        ensures { result ≡ bits self };
+}
+
+impl Word for u32 {
+    ghost bits = { λ x. x };
+
+    fn bits(self) -> u32 {
+        self
     }
 }
 
-// The four bytes of each unsigned number.
-fn put_unsigneds(out: &mut [u8], at: usize, xs: &[u32]) -> usize
-    requires { at + length (unsigned_bytes xs.now) ≤ length out.old }
-    ensures { Laid at (unsigned_bytes xs.now) out.old out.new result }
-{
-    let mut next = at;
-    for k in 0..xs.len() {
-        let x = xs[k];
-        next = bytes_output::word(out, next, x);
+impl Word for i32 {
+    ghost bits = { bits };
+
+    fn bits(self) -> u32 {
+        self.cast_unsigned()
     }
-    next
 }
 
-// The four bytes of each signed number.
-fn put_signeds(out: &mut [u8], at: usize, xs: &[i32]) -> usize
-    requires { at + length (signed_bytes xs.now) ≤ length out.old }
-    ensures { Laid at (signed_bytes xs.now) out.old out.new result }
+// The two letters of a mark as a number, low byte first.
+fn letters(mark: Mark) -> u16
+    ensures { number_bytes 2 result ≡ letters (mark_held mark) }
 {
-    let mut next = at;
-    for k in 0..xs.len() {
-        let x = bits_of(xs[k]);
-        next = bytes_output::word(out, next, x);
+    match mark {
+        Mark::LB => lot_marks::LETTERS_LB as u16,
+        Mark::ND => lot_marks::LETTERS_ND as u16,
+        Mark::HX => lot_marks::LETTERS_HX as u16,
+        Mark::GR => lot_marks::LETTERS_GR as u16,
+        Mark::EN => lot_marks::LETTERS_EN as u16,
     }
-    next
 }
 
 // The head of an entry: its letters and the length of its body.
-fn put_head(out: &mut [u8], at: usize, letters: u32, len: u32) -> usize
-    requires { (letters < 65536) × (len < 65536) × (at + 4 ≤ length out.old) }
-    ensures { Laid at (number_bytes 2 letters ++ number_bytes 2 len) out.old out.new result }
+fn put_head(out: &mut Output, mark: Mark, len: u16)
+    requires { Room out.old (letters (mark_held mark) ++ number_bytes 2 len) }
+    ensures { Laid out.old (letters (mark_held mark) ++ number_bytes 2 len) out.new }
 {
-    let next = bytes_output::short(out, at, letters);
-    bytes_output::short(out, next, len)
+    out.short(letters(mark));
+    out.short(len);
 }
 
-// An entry that is a label or a name.
-pub fn put_name(out: &mut [u8], at: usize, letters: u32, name: &[u8]) -> usize
-    requires { (letters < 65536) × (length name.now < 65536) × (at + length (entry_with letters name.now) ≤ length out.old) }
-    ensures { Laid at (entry_with letters name.now) out.old out.new result }
+// An entry whose body is bytes: a label, a name, or none.
+pub fn put_entry(out: &mut Output, mark: Mark, body: &[u8])
+    requires { (length body.now < 65536) × Room out.old (entry_bytes (mark_held mark) body.now) }
+    ensures { Laid out.old (entry_bytes (mark_held mark) body.now) out.new }
 {
-    let next = put_head(out, at, letters, name.len() as u32);
-    bytes_output::bytes(out, next, name)
+    put_head(out, mark, body.len() as u16);
+    out.bytes(body);
 }
 
-// The entry of a label.
-pub fn put_label(out: &mut [u8], at: usize, label: &[u8]) -> usize
-    requires { (length label.now < 65536) × (at + length (entry_bytes LB label.now) ≤ length out.old) }
-    ensures { Laid at (entry_bytes LB label.now) out.old out.new result }
+// The four bytes of each number.
+fn put_words<W: Word>(out: &mut Output, words: &[W])
+    requires { Room out.old (unsigned_bytes (map W.Word.bits words.now)) }
+    ensures { Laid out.old (unsigned_bytes (map W.Word.bits words.now)) out.new }
 {
-    put_name(out, at, lot_marks::LETTERS_LB, label)
+    for x in words {
+        out.word(x.bits());
+    }
 }
 
-// The entry of a node.
-pub fn put_node(out: &mut [u8], at: usize, node: &[i32]) -> usize
-    requires { (length node.now ≡ 3) × (at + length (entry_bytes ND (signed_bytes node.now)) ≤ length out.old) }
-    ensures { Laid at (entry_bytes ND (signed_bytes node.now)) out.old out.new result }
+// An entry whose body is numbers: those of a node or an element.
+pub fn put_numbers<W: Word>(out: &mut Output, mark: Mark, numbers: &[W])
+    requires { (4 * length numbers.now < 65536) × Room out.old (entry_bytes (mark_held mark) (unsigned_bytes (map W.Word.bits numbers.now))) }
+    ensures { Laid out.old (entry_bytes (mark_held mark) (unsigned_bytes (map W.Word.bits numbers.now))) out.new }
 {
-    let next = put_head(out, at, lot_marks::LETTERS_ND, 12);
-    put_signeds(out, next, node)
-}
-
-// The entry of an element.
-pub fn put_element(out: &mut [u8], at: usize, element: &[u32]) -> usize
-    requires { (length element.now ≡ 8) × (at + length (entry_bytes HX (unsigned_bytes element.now)) ≤ length out.old) }
-    ensures { Laid at (entry_bytes HX (unsigned_bytes element.now)) out.old out.new result }
-{
-    let next = put_head(out, at, lot_marks::LETTERS_HX, 32);
-    put_unsigneds(out, next, element)
-}
-
-// The entry of the end.
-pub fn put_end(out: &mut [u8], at: usize) -> usize
-    requires { at + length (entry_bytes EN []) ≤ length out.old }
-    ensures { Laid at (entry_bytes EN []) out.old out.new result }
-{
-    put_head(out, at, lot_marks::LETTERS_EN, 0)
+    put_head(out, mark, (4 * numbers.len()) as u16);
+    put_words(out, numbers);
 }

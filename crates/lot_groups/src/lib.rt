@@ -6,18 +6,29 @@ ghost use Rattle.std.specs.Prelude.{◌≡◌, eqb, length};
 ghost use Rattle.foundation.specs.Lists.{sum};
 ghost use Rattle.lot_format.specs.Format.{lot_file};
 ghost use Rattle.lot_format.specs.Groups.{rising, fit_together, all_up_to, short_names, clean_names};
+ghost use Rattle.lot_groups.specs.Meaning.{first_fault, fault_told};
+
+use limits::MAX_NAME;
+use lot_runs::Groups;
+
+// What is wrong with a label and groups.
+#[derive(Clone, Copy, Debug, PartialEq, Eq)]
+pub enum GroupFault {
+    Apart,
+    NameTooLong,
+    BadByte,
+}
 
 // Whether lengths add up to n.
 fn add_up(lengths: &[u32], n: usize) -> bool
     ensures { result ≡ eqb (sum lengths.now) n }
 {
     let mut left = n;
-    for k in 0..lengths.len() {
-        let length = lengths[k] as usize;
-        if left < length {
+    for &length in lengths {
+        let Some(rest) = left.checked_sub(length as usize) else {
             return false;
-        }
-        left -= length;
+        };
+        left = rest;
     }
     left == 0
 }
@@ -27,12 +38,9 @@ fn rise(offsets: &[u32], n: usize) -> bool
     ensures { result ≡ rising 0 n offsets.now }
 {
     let mut low = 0;
-    for k in 0..offsets.len() {
-        let before = offsets[k] as usize;
-        if before < low {
-            return false;
-        }
-        if n < before {
+    for &offset in offsets {
+        let before = offset as usize;
+        if before < low || n < before {
             return false;
         }
         low = before;
@@ -44,43 +52,44 @@ fn rise(offsets: &[u32], n: usize) -> bool
 fn up_to(lengths: &[u32], n: usize) -> bool
     ensures { result ≡ all_up_to n lengths.now }
 {
-    for k in 0..lengths.len() {
-        if n < lengths[k] as usize {
-            return false;
-        }
-    }
-    true
+    lengths.iter().all(|length| *length as usize <= n)
 }
 
-// Whether groups fit together, where there are so many bytes of names and so many elements.
-pub fn fit_together(lengths: &[u32], offsets: &[u32], names: usize, elements: usize) -> bool
-    ensures { result ≡ fit_together lengths.now offsets.now names elements }
+// Whether groups fit together, where there are so many elements.
+pub fn fit_together(groups: Groups, elements: usize) -> bool
+    ensures { result ≡ fit_together groups.entry.lengths.now groups.entry.offsets.now (length groups.entry.names.now) elements }
 {
-    if lengths.len() != offsets.len() {
-        return false;
-    }
-    if !add_up(lengths, names) {
-        return false;
-    }
-    rise(offsets, elements)
+    groups.lengths.len() == groups.offsets.len()
+        && add_up(groups.lengths, groups.names.len())
+        && rise(groups.offsets, elements)
 }
 
 // Whether the label and the names are short enough.
-pub fn short_names(label: usize, lengths: &[u32]) -> bool
-    ensures { result ≡ short_names lot_file label lengths.now }
+pub fn short_names(label: &[u8], groups: Groups) -> bool
+    ensures { result ≡ short_names lot_file (length label.now) groups.entry.lengths.now }
 {
-    if limits::MAX_NAME < label {
-        return false;
-    }
-    up_to(lengths, limits::MAX_NAME)
+    label.len() <= MAX_NAME && up_to(groups.lengths, MAX_NAME)
 }
 
 // Whether all bytes of the label and of the names may stand there.
-pub fn clean_names(label: &[u8], names: &[u8]) -> bool
-    ensures { result ≡ clean_names label.now names.now }
+pub fn clean_names(label: &[u8], groups: Groups) -> bool
+    ensures { result ≡ clean_names label.now groups.entry.names.now }
 {
-    if !lot_entry_reader::name_bytes(label) {
-        return false;
+    lot_entry_reader::name_bytes(label) && lot_entry_reader::name_bytes(groups.names)
+}
+
+// The first test that fails: the groups do not fit together, the label or a name is too long, a byte of them is wrong.
+pub fn check(label: &[u8], groups: Groups, elements: usize) -> Result<(), GroupFault>
+    ensures { fault_told result ≡ first_fault label.now groups.entry elements }
+{
+    if !fit_together(groups, elements) {
+        return Err(GroupFault::Apart);
     }
-    lot_entry_reader::name_bytes(names)
+    if !short_names(label, groups) {
+        return Err(GroupFault::NameTooLong);
+    }
+    if !clean_names(label, groups) {
+        return Err(GroupFault::BadByte);
+    }
+    Ok(())
 }

@@ -7,7 +7,6 @@ use Prim.Native.Nat.{ℕ, ◌+◌, ◌*◌, ◌≤◌, ◌<◌}
 use native.Mathlib.Omega.{arith}
 use lib.ListN.{get_or, length, take, drop, length-append, length-drop}
 use lib.Seq.{drop-drop}
-use lib.IntN.{ℤ}
 use Rattle.foundation.specs.Laid.{put, laid_over, length_laid, put_behind}
 use Rattle.lot_format.specs.Numbers.{number}
 use Rattle.lot_format.specs.Format.{lot_file, Lot, Mark, mark_of, right_length, Stage, at_label, stage_after}
@@ -16,30 +15,15 @@ use Rattle.lot_format.specs.Reading.{whole_entry, entry_of, contents, joined, ha
 use Rattle.lot_format.specs.Joined.{names_append, lengths_append, offsets_append}
 use Rattle.lot_format.specs.Entries.{whole_is}
 use Rattle.lot_format.proofs.Reached.{Next, Grows, reached_next, reached_grows, reached_all}
-use Rattle.lot_format.proofs.Accepted.{accepted_short}
+use Rattle.lot_format.proofs.Accepted.{accepted_short, Fits}
 use Rattle.lot_scan.specs.declared.Counts.{Counts}
 use Rattle.lot_scan.specs.Meaning.{no_counts, counted_of, Small}
-use Rattle.lot_entry_hand_out.specs.Meaning.{Fitting}
+use Rattle.lot_entry_hand_out.specs.Meaning.{new_runs, Fitting, Laid}
 use Rattle.lot_hand_out.specs.Meaning.{Handable}
 use Rattle.lot_scan.specs.Seen.{Seen, before, seen_start, seen_whole, seen_whole_lot, seen_small}
 use Rattle.lot_scan.specs.Scans.{as_many_lengths, as_many_offsets}
-use Rattle.lot_entry_hand_out.specs.EntryRuns.{Laid}
-
--- the five lent runs
-pub record Lent : Type 0 where
-  pub nodes : List ℤ
-  pub elements : List ℕ
-  pub names : List ℕ
-  pub lengths : List ℕ
-  pub offsets : List ℕ
-
--- runs laid over lent ones
-pub record Over (x : Runs) (before now : Lent) : Type 0 where
-  pub nodes : now.nodes ≡ laid_over x.nodes before.nodes
-  pub elements : now.elements ≡ laid_over x.elements before.elements
-  pub names : now.names ≡ laid_over x.names before.names
-  pub lengths : now.lengths ≡ laid_over x.lengths before.lengths
-  pub offsets : now.offsets ≡ laid_over x.offsets before.offsets
+use Rattle.lot_runs.specs.declared.Space.{Space}
+use Rattle.lot_runs.specs.Meaning.{room_of, Over, Kept}
 
 -- how long each run is, in five parts; how long the runs of a joined lot are
 pub record Long (x : Runs) (a b c d e : ℕ) : Type 0 where
@@ -61,7 +45,7 @@ module _ (a b : Lot) where
   }
 
 -- ---- how far the handing out has come
-pub record Handed (file : List ℕ) (lent now : Lent) (at : ℕ) (n : Counts) : Type 0 where
+pub record Handed (file : List ℕ) (lent now : Runs) (at : ℕ) (n : Counts) : Type 0 where
   pub stage : Stage
   pub seen : Seen file at stage n
   pub over : Over (runs_of seen.lot) lent now
@@ -100,39 +84,35 @@ module _ {file : List ℕ} {at : ℕ} {stage : Stage} {n : Counts} (x : Seen fil
         fits = subst (λ (k : ℕ). 4 + k ≤ length (drop at file)) long w.fits;
       }
 
+-- the lent runs are kept from one entry to the next
+pub kept_next : {a b c : Space} → Kept a b → Kept b c → Kept a c
+kept_next p q = record { nodes = q.nodes ∙ p.nodes; elements = q.elements ∙ p.elements; names = q.names ∙ p.names; lengths = q.lengths ∙ p.lengths; offsets = q.offsets ∙ p.offsets }
+
 -- one run with more behind
 over_next : {A : Type 0} (xs ys zs space now : List A) {at : ℕ} {then : List A} → now ≡ laid_over xs space → length xs ≡ at → then ≡ put at ys now → xs ++ ys ≡ zs → then ≡ laid_over zs space
 over_next xs ys zs space now e l f g = f ∙ ap₂ (λ k s. put k ys s) (sym l) e ∙ put_behind xs ys space ∙ ap (λ z. laid_over z space) g
 
--- runs that fit the lent ones
-pub record Fit (lent : Lent) (x : Runs) : Type 0 where
-  pub nodes : length x.nodes ≤ length lent.nodes
-  pub elements : length x.elements ≤ length lent.elements
-  pub names : length x.names ≤ length lent.names
-  pub lengths : length x.lengths ≤ length lent.lengths
-  pub offsets : length x.offsets ≤ length lent.offsets
-
-module _ (file : List ℕ) (lent : Lent) (h : Handable (read_lot lot_file file) (length lent.nodes) (length lent.elements) (length lent.names) (length lent.lengths) (length lent.offsets)) where
+module _ (file : List ℕ) (lent : Runs) (h : Handable (read_lot lot_file file) (room_of lent)) where
   short : length file ≤ lot_file.bytes
   short = accepted_short lot_file file (lot_of (read_lot lot_file file)) h.good
 
   pub handed_start : Handed file lent lent 0 no_counts
   unfolding seen_start
-  handed_start = record { stage = at_label; seen = seen_start file short; over = record { nodes = refl; elements = refl; names = refl; lengths = refl; offsets = refl } }
+  handed_start = record { stage = at_label; seen = seen_start file short; over = record { nodes_after = refl; elements_after = refl; names_after = refl; lengths_after = refl; offsets_after = refl } }
 
-  all_fit : Fit lent (runs_of (lot_of (read_lot lot_file file)))
+  all_fit : Fits (runs_of (lot_of (read_lot lot_file file))) (room_of lent)
   all_fit = record { nodes = h.nodes_fit; elements = h.elements_fit; names = h.names_fit; lengths = h.lengths_fit; offsets = h.offsets_fit }
 
-  part_fits : (lot : Lot) → Grows lot (lot_of (read_lot lot_file file)) → Fit lent (runs_of lot)
+  part_fits : (lot : Lot) → Grows lot (lot_of (read_lot lot_file file)) → Fits (runs_of lot) (room_of lent)
   part_fits lot g =
       let l = long_joined lot g.more in
-      let f = subst (λ (x : Lot). Fit lent (runs_of x)) g.is_joined all_fit in
+      let f = subst (λ (x : Lot). Fits (runs_of x) (room_of lent)) g.is_joined all_fit in
       record { nodes = omega (arith, l.nodes, f.nodes); elements = omega (arith, l.elements, f.elements); names = omega (arith, l.names, f.names); lengths = omega (arith, l.lengths, f.lengths); offsets = omega (arith, l.offsets, f.offsets) }
 
-  seen_fits : {at : ℕ} {stage : Stage} {n : Counts} (x : Seen file at stage n) → Fit lent (runs_of x.lot)
+  seen_fits : {at : ℕ} {stage : Stage} {n : Counts} (x : Seen file at stage n) → Fits (runs_of x.lot) (room_of lent)
   seen_fits x = part_fits x.lot (reached_grows lot_file file (lot_of (read_lot lot_file file)) h.good x.reached)
 
-  module _ {now : Lent} {at : ℕ} {n : Counts} (x : Handed file lent now at n) where
+  module _ {now : Runs} {at : ℕ} {n : Counts} (x : Handed file lent now at n) where
     pub handed_next : at < length file → Next lot_file file at x.stage x.seen.lot
     handed_next = reached_next lot_file file (lot_of (read_lot lot_file file)) h.good x.seen.reached
 
@@ -144,19 +124,19 @@ module _ (file : List ℕ) (lent : Lent) (h : Handable (read_lot lot_file file) 
 
     -- the lent runs keep their lengths
     pub same_nodes : length now.nodes ≡ length lent.nodes
-    same_nodes = ap length x.over.nodes ∙ length_laid (runs_of x.seen.lot).nodes lent.nodes (seen_fits x.seen).nodes
+    same_nodes = ap length x.over.nodes_after ∙ length_laid (runs_of x.seen.lot).nodes lent.nodes (seen_fits x.seen).nodes
 
     pub same_elements : length now.elements ≡ length lent.elements
-    same_elements = ap length x.over.elements ∙ length_laid (runs_of x.seen.lot).elements lent.elements (seen_fits x.seen).elements
+    same_elements = ap length x.over.elements_after ∙ length_laid (runs_of x.seen.lot).elements lent.elements (seen_fits x.seen).elements
 
     pub same_names : length now.names ≡ length lent.names
-    same_names = ap length x.over.names ∙ length_laid (runs_of x.seen.lot).names lent.names (seen_fits x.seen).names
+    same_names = ap length x.over.names_after ∙ length_laid (runs_of x.seen.lot).names lent.names (seen_fits x.seen).names
 
     pub same_lengths : length now.lengths ≡ length lent.lengths
-    same_lengths = ap length x.over.lengths ∙ length_laid (runs_of x.seen.lot).lengths lent.lengths (seen_fits x.seen).lengths
+    same_lengths = ap length x.over.lengths_after ∙ length_laid (runs_of x.seen.lot).lengths lent.lengths (seen_fits x.seen).lengths
 
     pub same_offsets : length now.offsets ≡ length lent.offsets
-    same_offsets = ap length x.over.offsets ∙ length_laid (runs_of x.seen.lot).offsets lent.offsets (seen_fits x.seen).offsets
+    same_offsets = ap length x.over.offsets_after ∙ length_laid (runs_of x.seen.lot).offsets lent.offsets (seen_fits x.seen).offsets
 
     pub handed_all : length file ≤ at → Over (runs_of (lot_of (read_lot lot_file file))) lent now
     handed_all l = subst (λ (lot : Lot). Over (runs_of lot) lent now) (reached_all lot_file file (lot_of (read_lot lot_file file)) h.good x.seen.reached l) x.over
@@ -179,9 +159,9 @@ module _ (file : List ℕ) (lent : Lent) (h : Handable (read_lot lot_file file) 
       unfolding seen_then
       lot_then = seen_whole_lot file len x.seen e.unread e.found e.fits ∙ ap₂ (λ (b : List ℕ) (k : ℕ). joined x.seen.lot (contents m (take len b) k)) (drop-drop 4 at file) (sym (before file x.seen))
 
-      pub handed_fits : Fitting m file (at + 4) len n (length now.nodes) (length now.elements) (length now.names) (length now.lengths) (length now.offsets)
+      pub handed_fits : Fitting m file (at + 4) len n (room_of now)
       handed_fits =
-          let f = subst (λ (lot : Lot). Fit lent (runs_of lot)) lot_then (seen_fits seen_then) in
+          let f = subst (λ (lot : Lot). Fits (runs_of lot) (room_of lent)) lot_then (seen_fits seen_then) in
           let l = long_joined x.seen.lot next_lot in
           let k = long_seen x.seen in
           record {
@@ -195,18 +175,18 @@ module _ (file : List ℕ) (lent : Lent) (h : Handable (read_lot lot_file file) 
             offsets_fit = omega (arith, f.offsets, l.offsets, k.offsets, same_offsets);
           }
 
-      pub handed_then : {then : Lent} {n' : Counts}
-          → Laid m file (at + 4) len n now.nodes now.elements now.names now.lengths now.offsets then.nodes then.elements then.names then.lengths then.offsets
+      pub handed_then : {then : Runs} {n' : Counts}
+          → Laid (new_runs m file (at + 4) len n) n now then
           → n' ≡ counted_of m len n → Handed file lent then (at + 4 + len) n'
       handed_then {then} {n'} p q =
           let a = x.seen.lot in
           let k = long_seen x.seen in
           let o = x.over in
           let over : Over (runs_of (joined a next_lot)) lent then = record {
-            nodes = over_next a.nodes next_lot.nodes _ lent.nodes now.nodes o.nodes k.nodes p.0 refl;
-            elements = over_next a.elements next_lot.elements _ lent.elements now.elements o.elements k.elements p.1.0 refl;
-            names = over_next (names_of a.groups) (names_of next_lot.groups) _ lent.names now.names o.names k.names p.1.1.0 (sym (names_append a.groups next_lot.groups));
-            lengths = over_next (lengths_of a.groups) (lengths_of next_lot.groups) _ lent.lengths now.lengths o.lengths k.lengths p.1.1.1.0 (sym (lengths_append a.groups next_lot.groups));
-            offsets = over_next (offsets_of a.groups) (offsets_of next_lot.groups) _ lent.offsets now.offsets o.offsets k.offsets p.1.1.1.1 (sym (offsets_append a.groups next_lot.groups));
+            nodes_after = over_next a.nodes next_lot.nodes _ lent.nodes now.nodes o.nodes_after k.nodes p.nodes_after refl;
+            elements_after = over_next a.elements next_lot.elements _ lent.elements now.elements o.elements_after k.elements p.elements_after refl;
+            names_after = over_next (names_of a.groups) (names_of next_lot.groups) _ lent.names now.names o.names_after k.names p.names_after (sym (names_append a.groups next_lot.groups));
+            lengths_after = over_next (lengths_of a.groups) (lengths_of next_lot.groups) _ lent.lengths now.lengths o.lengths_after k.lengths p.lengths_after (sym (lengths_append a.groups next_lot.groups));
+            offsets_after = over_next (offsets_of a.groups) (offsets_of next_lot.groups) _ lent.offsets now.offsets o.offsets_after k.offsets p.offsets_after (sym (offsets_append a.groups next_lot.groups));
           } in
           subst (Handed file lent then (at + 4 + len)) (sym q) (record { stage = stage_after m; seen = seen_then; over = subst (λ (lot : Lot). Over (runs_of lot) lent then) (sym lot_then) over })

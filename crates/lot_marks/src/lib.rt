@@ -21,7 +21,7 @@ pub const LETTERS_GR: u32 = 0x5247;
 pub const LETTERS_EN: u32 = 0x4e45;
 
 // The mark of an entry.
-#[derive(Clone, Copy)]
+#[derive(Clone, Copy, Debug, PartialEq, Eq)]
 pub enum Mark {
     LB,
     ND,
@@ -30,15 +30,8 @@ pub enum Mark {
     EN,
 }
 
-// The mark that two bytes are.
-#[derive(Clone, Copy)]
-pub enum Marked {
-    Known(Mark),
-    Unknown,
-}
-
 // Which marks are in place: none was read yet; the label or a node was; an element or a group was; the end was.
-#[derive(Clone, Copy)]
+#[derive(Clone, Copy, Debug, PartialEq, Eq)]
 pub enum Stage {
     AtLabel,
     AtNodes,
@@ -46,26 +39,18 @@ pub enum Stage {
     AtEnd,
 }
 
-// The mark whose two letters are the low and the high byte of a number.
-pub fn mark_of(letters: u32) -> Marked
+// The mark whose two letters are the low and the high byte of a number, if they are one's.
+pub fn mark_of(letters: u32) -> Option<Mark>
     ensures { marked_held result ≡ mark_of (letters % 256) (letters / 256) }
 {
-    if letters == LETTERS_ND {
-        return Marked::Known(Mark::ND);
+    match letters {
+        LETTERS_ND => Some(Mark::ND),
+        LETTERS_HX => Some(Mark::HX),
+        LETTERS_LB => Some(Mark::LB),
+        LETTERS_GR => Some(Mark::GR),
+        LETTERS_EN => Some(Mark::EN),
+        _ => None,
     }
-    if letters == LETTERS_HX {
-        return Marked::Known(Mark::HX);
-    }
-    if letters == LETTERS_LB {
-        return Marked::Known(Mark::LB);
-    }
-    if letters == LETTERS_GR {
-        return Marked::Known(Mark::GR);
-    }
-    if letters == LETTERS_EN {
-        return Marked::Known(Mark::EN);
-    }
-    Marked::Unknown
 }
 
 // Whether a mark is in place at a stage.
@@ -73,27 +58,9 @@ pub fn in_place(stage: Stage, mark: Mark) -> bool
     ensures { result ≡ in_place (stage_held stage) (mark_held mark) }
 {
     match stage {
-        Stage::AtLabel => match mark {
-            Mark::LB => true,
-            Mark::ND => false,
-            Mark::HX => false,
-            Mark::GR => false,
-            Mark::EN => false,
-        },
-        Stage::AtNodes => match mark {
-            Mark::LB => false,
-            Mark::ND => true,
-            Mark::HX => true,
-            Mark::GR => true,
-            Mark::EN => true,
-        },
-        Stage::AtElements => match mark {
-            Mark::LB => false,
-            Mark::ND => false,
-            Mark::HX => true,
-            Mark::GR => true,
-            Mark::EN => true,
-        },
+        Stage::AtLabel => mark == Mark::LB,
+        Stage::AtNodes => mark != Mark::LB,
+        Stage::AtElements => matches!(mark, Mark::HX | Mark::GR | Mark::EN),
         Stage::AtEnd => false,
     }
 }
@@ -103,10 +70,8 @@ pub fn stage_after(mark: Mark) -> Stage
     ensures { stage_held result ≡ stage_after (mark_held mark) }
 {
     match mark {
-        Mark::LB => Stage::AtNodes,
-        Mark::ND => Stage::AtNodes,
-        Mark::HX => Stage::AtElements,
-        Mark::GR => Stage::AtElements,
+        Mark::LB | Mark::ND => Stage::AtNodes,
+        Mark::HX | Mark::GR => Stage::AtElements,
         Mark::EN => Stage::AtEnd,
     }
 }
@@ -116,10 +81,9 @@ pub fn right_length(mark: Mark, n: usize) -> bool
     ensures { result ≡ right_length lot_file (mark_held mark) n }
 {
     match mark {
-        Mark::LB => n <= MAX_NAME,
+        Mark::LB | Mark::GR => n <= MAX_NAME,
         Mark::ND => n == 12,
         Mark::HX => n == 32,
-        Mark::GR => n <= MAX_NAME,
         Mark::EN => n == 0,
     }
 }
@@ -131,10 +95,9 @@ pub fn body_length(mark: Mark, n: usize) -> usize
     ensures { result ≡ n }
 {
     match mark {
-        Mark::LB => n,
+        Mark::LB | Mark::GR => n,
         Mark::ND => 12,
         Mark::HX => 32,
-        Mark::GR => n,
         Mark::EN => 0,
     }
 }
@@ -143,10 +106,5 @@ pub fn body_length(mark: Mark, n: usize) -> usize
 pub fn has_ended(stage: Stage) -> bool
     ensures { result ≡ has_ended (stage_held stage) }
 {
-    match stage {
-        Stage::AtLabel => false,
-        Stage::AtNodes => false,
-        Stage::AtElements => false,
-        Stage::AtEnd => true,
-    }
+    stage == Stage::AtEnd
 }

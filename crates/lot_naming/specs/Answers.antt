@@ -2,11 +2,13 @@
 use Rattle.std.proofs.Math.Path.{◌≡◌, refl}
 use Rattle.std.specs.Prelude.{true, false, List, [], ℕ, ltb, length}
 use Rattle.std.proofs.Math.Option.{Option, none, some}
-use Rattle.std.proofs.Common.{arith}
+use Rattle.std.proofs.Common.{sym, ap, arith, Result, Ok, Err}
 use Rattle.lot_format.specs.Format.{FileLimits, Group}
 use Rattle.lot_format.specs.Runs.{groups_of}
 use Rattle.lot_format.specs.Groups.{first_failed, fit_together, short_names, clean_names}
 use Rattle.lot_format.specs.Naming.{name_of, Unnamed, groups_apart, name_too_long, bad_byte, no_such_element, unnamed_number, naming_tests, Naming, named, unnamed, naming, name_given, naming_number}
+use Rattle.lot_naming.specs.declared.Unnamed.{Unnamed as CodeUnnamed}
+use Rattle.lot_naming.specs.Meaning.{unnamed_held, refusal_in, refusal_told, number_told}
 use Rattle.lot_naming.specs.Place.{place_given}
 
 -- no refusal has the number 0
@@ -53,6 +55,19 @@ module _ (F : FileLimits) (label names lengths offsets : List ℕ) (elements e :
           → ◌≡◌ {A = Naming} (elim o [ none ↦ named (name_of label (groups_of names lengths offsets) e) | some r ↦ unnamed r ]) (named (name_of label (groups_of names lengths offsets) e))
       go none z = refl
       go (some r) z = absurd (not_zero r z)
+
+-- a naming by its refusal
+pub refused_is : (n : Naming) (r : Unnamed) → some r ≡ refusal_in n → n ≡ unnamed r
+refused_is (named name) r e = cc
+refused_is (unnamed s) r e = cc
+
+pub not_refused : (n : Naming) → none ≡ refusal_in n → naming_number n ≡ 0
+not_refused (named name) e = refl
+not_refused (unnamed s) e = cc
+
+pub number_is : (r : Result Unit CodeUnnamed) (n : Naming) → refusal_told r ≡ refusal_in n → number_told r ≡ naming_number n
+number_is (Ok u) n e = sym (not_refused n e)
+number_is (Err r) n e = sym (ap naming_number (refused_is n (unnamed_held r) e))
 
 -- another number is that of a refusal
 pub other_nothing : (n : Naming) → (naming_number n ≡ 0 → ⊥) → name_given n ≡ []

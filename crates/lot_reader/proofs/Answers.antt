@@ -7,11 +7,12 @@ use lib.ListN.{length, take, drop}
 use Rattle.foundation.specs.Lists.{All}
 use Rattle.lot_format.specs.Numbers.{Byte}
 use Rattle.lot_format.specs.Format.{lot_file, Lot}
-use Rattle.lot_format.specs.Runs.{runs_of}
+use Rattle.lot_format.specs.Runs.{Runs, runs_of}
+use Rattle.lot_runs.specs.Meaning.{Over}
 use Rattle.lot_format.specs.Reading.{readable, read_lot, Room as FileRoom, reading, lot_of, handed_out, label_place, reading_number, reading_numbers}
 use Rattle.lot_format.proofs.Accepted.{accepted_label, accepted_label_fits, reading_accepted, Fits, room_fits}
 use Rattle.lot_scan.specs.declared.Counts.{Counts}
-use Rattle.lot_scan.specs.declared.Scan.TheVariants.{Counted}
+use Rattle.std.proofs.Common.{Ok}
 use Rattle.lot_scan.specs.Meaning.{scan_held, scan_of, IsAccepted}
 use Rattle.lot_scan.specs.Scans.{Accepts, scan_holds, as_many_lengths}
 use Rattle.lot_hand_out.specs.Meaning.{Handable}
@@ -30,18 +31,22 @@ is_readable file room e =
     let whole : lot_of (read_lot lot_file file) ≡ lot = ap lot_of same in
     record { same = same; good = parts.0 ∙ ap readable (sym whole); fits = subst (λ (l : Lot). Fits (runs_of l) room) (sym whole) (room_fits (runs_of lot) room parts.1) }
 
-pub handable : (file : List ℕ) (room : FileRoom) → Readable file room → Handable (read_lot lot_file file) room.nodes room.elements room.names room.lengths room.offsets
+pub handable : (file : List ℕ) (room : FileRoom) → Readable file room → Handable (read_lot lot_file file) room
 handable file room x = record { good = x.good; nodes_fit = x.fits.nodes; elements_fit = x.fits.elements; names_fit = x.fits.names; lengths_fit = x.fits.lengths; offsets_fit = x.fits.offsets }
 
+-- runs laid over the lent ones, by another name
+pub over_same : {x y before now : Runs} → x ≡ y → Over x before now → Over y before now
+over_same {x} {y} {before} {now} e = subst (λ (x : Runs). Over x before now) e
+
 -- ---- all that the scan of an accepted file tells
-module _ (file : List ℕ) (room : FileRoom) (n : Counts) (e : scan_held (Counted n) ≡ scan_of (reading lot_file file room)) where
+module _ (file : List ℕ) (room : FileRoom) (n : Counts) (e : scan_held (Ok n) ≡ scan_of (reading lot_file file room)) where
   accepts : Accepts (reading lot_file file room) n.label (3 * n.nodes) (8 * n.elements) n.groups n.names
   accepts = scan_holds (reading lot_file file room) e
 
   read_parts : Readable file room
   read_parts = is_readable file room accepts.good
 
-  pub read_handable : Handable (read_lot lot_file file) room.nodes room.elements room.names room.lengths room.offsets
+  pub read_handable : Handable (read_lot lot_file file) room
   read_handable = handable file room read_parts
 
   pub read_same : handed_out (read_lot lot_file file) ≡ handed_out (reading lot_file file room)

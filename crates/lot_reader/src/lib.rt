@@ -3,77 +3,45 @@
 // A file is gone through twice: first for a fault, then, where it has none and the lent space is large enough, to hand out what it holds.
 #![tactic(auto)]
 
-ghost use Rattle.std.specs.Prelude.{◌≡◌, ◌+◌};
-ghost use Rattle.foundation.specs.Laid.{laid_over};
-ghost use Rattle.lot_format.specs.Format.{lot_file};
-ghost use Rattle.lot_format.specs.Reading.{read_into, handed_out, label_place, reading_numbers, unreadable_number};
-ghost use Rattle.lot_entry_reader.specs.Meaning.{unreadable_held};
+ghost use Rattle.std.specs.Prelude.{◌≡◌, ◌+◌, IfOk};
+ghost use Rattle.lot_format.specs.Reading.{handed_out, label_place, reading_numbers};
+ghost use Rattle.lot_runs.specs.Meaning.{space_held, Over, Kept};
+ghost use Rattle.lot_reader.specs.Promise.{read_over};
+ghost use Rattle.lot_reader.specs.Meaning.{label_told, numbers_told};
 
 use lot_entry_reader::Unreadable;
-use lot_scan::{Room, Scan};
+use lot_runs::Space;
 
-// The number of a refusal.
-fn refusal_number(r: Unreadable) -> u32
-    ensures { result ≡ unreadable_number (unreadable_held r) }
-{
-    match r {
-        Unreadable::TooLong => 20,
-        Unreadable::CutShort => 21,
-        Unreadable::UnknownMark => 22,
-        Unreadable::WrongLength => 23,
-        Unreadable::OutOfPlace => 24,
-        Unreadable::BadByte => 25,
-        Unreadable::TooManyElements => 26,
-        Unreadable::NoRoom => 27,
-    }
+// What an accepted lot holds: its label, as the part of the file that it is, and the numbers of nodes, elements and groups and of the bytes of
+// the groups' names.
+#[derive(Clone, Copy)]
+pub struct Contents<'a> {
+    pub label: &'a [u8],
+    pub nodes: u32,
+    pub elements: u32,
+    pub groups: u32,
+    pub names: u32,
 }
 
-// Reads a lot file. The answer's five words are the number 0 with the numbers of nodes, elements and groups and of the bytes of the groups'
-// names, or the number that refuses the lot with 0 for each. An accepted lot's coordinates, three a node, and indices, eight an element, are
+// Reads a lot file: what it holds, or why it is refused. An accepted lot's coordinates, three a node, and indices, eight an element, are
 // written to the lent words, and so are its groups: their names end to end, the length of each name, and the count of elements before
 // each group. Its label is handed back as the part of the file that it is: the last clause says where that part starts. A refused lot leaves
-// the lent words as they are, and the part is empty.
-pub fn read<'a>(
-    file: &'a [u8],
-    nodes: &mut [i32],
-    elements: &mut [u32],
-    names: &mut [u8],
-    lengths: &mut [u32],
-    offsets: &mut [u32],
-    answer: &mut [u32; 5],
-) -> &'a [u8]
-    ensures result_value { result.now ≡ (handed_out (read_into lot_file file.now nodes.old elements.old names.old lengths.old offsets.old)).label }
-    ensures nodes_after { nodes.new ≡ laid_over (handed_out (read_into lot_file file.now nodes.old elements.old names.old lengths.old offsets.old)).nodes nodes.old }
-    ensures elements_after { elements.new ≡ laid_over (handed_out (read_into lot_file file.now nodes.old elements.old names.old lengths.old offsets.old)).elements elements.old }
-    ensures names_after { names.new ≡ laid_over (handed_out (read_into lot_file file.now nodes.old elements.old names.old lengths.old offsets.old)).names names.old }
-    ensures lengths_after { lengths.new ≡ laid_over (handed_out (read_into lot_file file.now nodes.old elements.old names.old lengths.old offsets.old)).lengths lengths.old }
-    ensures offsets_after { offsets.new ≡ laid_over (handed_out (read_into lot_file file.now nodes.old elements.old names.old lengths.old offsets.old)).offsets offsets.old }
-    ensures answer_after { answer.new ≡ reading_numbers (read_into lot_file file.now nodes.old elements.old names.old lengths.old offsets.old) }
-    ensures ref_ptr_value { result.ref_ptr ≡ (file.entry.ref_ptr.0, label_place (read_into lot_file file.now nodes.old elements.old names.old lengths.old offsets.old) + file.entry.ref_ptr.1) }
+// the lent words as they are.
+pub fn read<'a>(file: &'a [u8], space: &mut Space) -> Result<Contents<'a>, Unreadable>
+    ensures label { label_told result ≡ (handed_out (read_over file.now (space_held space.old))).label }
+    ensures numbers { numbers_told result ≡ reading_numbers (read_over file.now (space_held space.old)) }
+    ensures lent { Over (handed_out (read_over file.now (space_held space.old))) (space_held space.old) (space_held space.new) }
+    ensures kept { Kept space.old space.new }
+    ensures ref_ptr_value { IfOk result (λ c. c.label.ref_ptr ≡ (file.entry.ref_ptr.0, label_place (read_over file.now (space_held space.old)) + file.entry.ref_ptr.1)) }
 {
-    let room = Room {
-        nodes: nodes.len(),
-        elements: elements.len(),
-        names: names.len(),
-        lengths: lengths.len(),
-        offsets: offsets.len(),
-    };
-    let found = lot_scan::scan_with_room(file, room);
-    match found {
-        Scan::Refused(r) => {
-            let number = refusal_number(r);
-            *answer = [number, 0, 0, 0, 0];
-            &file[0..0]
-        }
-        Scan::Counted(n) => {
-            lot_hand_out::hand_out(file, nodes, elements, names, lengths, offsets);
-            let node_count = n.nodes as u32;
-            let element_count = n.elements as u32;
-            let group_count = n.groups as u32;
-            let name_bytes = n.names as u32;
-            *answer = [0, node_count, element_count, group_count, name_bytes];
-            let end = 4 + n.label;
-            &file[4..end]
-        }
-    }
+    let n = lot_scan::scan_with_room(file, space)?;
+    lot_hand_out::hand_out(file, space);
+    let end = 4 + n.label;
+    Ok(Contents {
+        label: &file[4..end],
+        nodes: n.nodes as u32,
+        elements: n.elements as u32,
+        groups: n.groups as u32,
+        names: n.names as u32,
+    })
 }

@@ -1,13 +1,11 @@
 -- What the code's answers stand for in the definitions of the lot file.
-use Rattle.std.specs.Prelude.{◌≡◌, Bool, ◌&&◌, ℕ, ◌+◌, ◌*◌, ◌≤◌, leb, length}
+use Rattle.std.specs.Prelude.{◌≡◌, Bool, ◌&&◌, ℕ, ◌+◌, ◌*◌, ◌≤◌, leb, length, Result, Ok, Err}
 use Rattle.lot_format.specs.Format.{lot_file, Mark as FileMark, LB as mark_lb, ND as mark_nd, HX as mark_hx, GR as mark_gr, EN as mark_en}
 use Rattle.lot_format.specs.Runs.{names_of}
-use Rattle.lot_format.specs.Reading.{Unreadable as FileUnreadable, Reading, readable, unreadable, lot_of, Room as FileRoom}
+use Rattle.lot_format.specs.Reading.{Unreadable as FileUnreadable, Reading, readable, unreadable, lot_of, Room}
+use Rattle.lot_entry_reader.specs.declared.Unreadable.{Unreadable}
 use Rattle.lot_entry_reader.specs.Meaning.{unreadable_held}
 use Rattle.lot_scan.specs.declared.Counts.{Counts}
-use Rattle.lot_scan.specs.declared.Room.{Room}
-use Rattle.lot_scan.specs.declared.Scan.{Scan}
-use Rattle.lot_scan.specs.declared.Scan.TheVariants.{Counted, Refused}
 
 abbrev pub no_counts : Counts
 no_counts = record { label = 0; nodes = 0; elements = 0; groups = 0; names = 0 }
@@ -34,22 +32,19 @@ pub data Found : Type 0 where
   holds : (label nodes elements groups names : ℕ) → Found
   fails : FileUnreadable → Found
 
-abbrev pub scan_held : Scan → Found
-scan_held (Counted n) = holds n.label (3 * n.nodes) (8 * n.elements) n.groups n.names
-scan_held (Refused r) = fails (unreadable_held r)
+abbrev pub scan_held : Result Counts Unreadable → Found
+scan_held (Ok n) = holds n.label (3 * n.nodes) (8 * n.elements) n.groups n.names
+scan_held (Err r) = fails (unreadable_held r)
 
 abbrev pub scan_of : Reading → Found
 scan_of (readable lot) = holds (length lot.label) (length lot.nodes) (length lot.elements) (length lot.groups) (length (names_of lot.groups))
 scan_of (unreadable r) = fails r
 
-abbrev pub Few : Scan → Type 0
-Few (Counted n) = Small 0 n
-Few (Refused r) = Unit
+abbrev pub Few : Result Counts Unreadable → Type 0
+Few (Ok n) = Small 0 n
+Few (Err r) = Unit
 
--- ---- lent space
-abbrev pub room_held : Room → FileRoom
-room_held r = record { nodes = r.nodes; elements = r.elements; names = r.names; lengths = r.lengths; offsets = r.offsets }
-
+-- whether there is room for so much
 abbrev pub has_room : Counts → Room → Bool
 has_room n room = leb (3 * n.nodes) room.nodes && (leb (8 * n.elements) room.elements && (leb n.names room.names && (leb n.groups room.lengths && leb n.groups room.offsets)))
 

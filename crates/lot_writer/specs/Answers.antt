@@ -1,9 +1,8 @@
 -- What an answer tells of the writing.
-use Rattle.std.specs.Prelude.{◌≡◌, refl, [], ℕ, length}
+use Rattle.std.specs.Prelude.{◌≡◌, refl, [], ℕ, length, Result, Ok, Err}
 use Rattle.std.proofs.Common.{sym, arith}
 use Rattle.lot_format.specs.Writing.{Unwritable, Writing, file, unwritten, file_of}
-use Rattle.lot_writer.specs.declared.Written.{Written}
-use Rattle.lot_writer.specs.declared.Written.TheVariants.{Length, Refused}
+use Rattle.lot_writer.specs.declared.Unwritable.{Unwritable as HeldUnwritable}
 use Rattle.lot_writer.specs.Meaning.{length_is, refuses, written_held, answer_of}
 
 -- a length and a refusal are two
@@ -18,6 +17,6 @@ pub refused_nothing : {r : Unwritable} (w : Writing) → refuses r ≡ answer_of
 refused_nothing (file bytes) e = apart (sym e)
 refused_nothing (unwritten r) e = refl
 
-pub is_length : {n : ℕ} (answer : Written) → written_held answer ≡ length_is n → answer ≡ Length n
-is_length (Length m) e = cc
-is_length (Refused r) e = apart (sym e)
+pub is_length : {n : ℕ} (answer : Result ℕ HeldUnwritable) → written_held answer ≡ length_is n → answer ≡ Ok n
+is_length (Ok m) e = cc
+is_length (Err r) e = apart (sym e)

@@ -1,15 +1,21 @@
 -- What the writer's answers stand for in the definitions of the lot file.
-use Rattle.std.specs.Prelude.{List, ℕ, min, length, ℤ}
+use Rattle.std.specs.Prelude.{List, ℕ, min, length, Result, Ok, Err, ℤ}
 use Rattle.lot_format.specs.Runs.{Runs}
 use Rattle.lot_format.specs.Writing.{Unwritable as FileUnwritable, partial_node, partial_element, groups_apart, name_too_long, bad_byte, too_many_elements, too_long, no_room, Writing, file, unwritten}
+use Rattle.lot_groups.specs.declared.GroupFault.{GroupFault}
+use Rattle.lot_groups.specs.declared.GroupFault.TheVariants as fault
 use Rattle.lot_writer.specs.declared.Unwritable.{Unwritable}
 use Rattle.lot_writer.specs.declared.Unwritable.TheVariants.{PartialNode, PartialElement, GroupsApart, NameTooLong, BadByte, TooManyElements, TooLong, NoRoom}
-use Rattle.lot_writer.specs.declared.Written.{Written}
-use Rattle.lot_writer.specs.declared.Written.TheVariants.{Length, Refused}
 
 -- the runs that are handed in
 abbrev pub runs : List ℕ → List ℤ → List ℕ → List ℕ → List ℕ → List ℕ → Runs
 runs label nodes elements names lengths offsets = record { label = label; nodes = nodes; elements = elements; names = names; lengths = lengths; offsets = offsets }
+
+-- the refusal for a fault of the label or the groups
+abbrev pub unwritable_of : GroupFault → Unwritable
+unwritable_of fault.Apart = GroupsApart
+unwritable_of fault.NameTooLong = NameTooLong
+unwritable_of fault.BadByte = BadByte
 
 abbrev pub unwritable_held : Unwritable → FileUnwritable
 unwritable_held PartialNode = partial_node
@@ -26,9 +32,9 @@ pub data Answer : Type 0 where
   length_is : ℕ → Answer
   refuses : FileUnwritable → Answer
 
-abbrev pub written_held : Written → Answer
-written_held (Length n) = length_is n
-written_held (Refused r) = refuses (unwritable_held r)
+abbrev pub written_held : Result ℕ Unwritable → Answer
+written_held (Ok n) = length_is n
+written_held (Err r) = refuses (unwritable_held r)
 
 abbrev pub answer_of : Writing → Answer
 answer_of (file bytes) = length_is (length bytes)

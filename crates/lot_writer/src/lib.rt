@@ -4,17 +4,24 @@
 #![tactic(auto)]
 
 ghost use Rattle.std.specs.Prelude.{◌≡◌, length};
-ghost use Rattle.foundation.specs.Laid.{laid_over};
+ghost use Rattle.foundation.specs.Laid.{put, laid_over};
 ghost use Rattle.lot_format.specs.Format.{lot_file, written};
 ghost use Rattle.lot_format.specs.Runs.{lot_from};
-ghost use Rattle.lot_format.specs.Writing.{writing, file_of};
+ghost use Rattle.lot_format.specs.Writing.{unwritable_number, writing, file_of};
 ghost use Rattle.lot_roundtrip_theory.specs.Lengths.{length_by};
 ghost use Rattle.lot_roundtrip_theory.specs.Tests.{Writable};
+ghost use Rattle.lot_runs.specs.Meaning.{lot_held};
 ghost use Rattle.bytes_output.specs.Behind.{Laid};
-ghost use Rattle.lot_writer.specs.Meaning.{runs, written_held, answer_of, capped};
+ghost use Rattle.lot_writer.specs.Meaning.{unwritable_of, unwritable_held, written_held, answer_of, capped};
+
+use bytes_output::Output;
+use limits::{MAX_BYTES, MAX_ELEMENTS};
+use lot_groups::GroupFault;
+use lot_marks::Mark;
+use lot_runs::Lot;
 
 // Why runs are not written.
-#[derive(Clone, Copy)]
+#[derive(Clone, Copy, Debug, PartialEq, Eq)]
 pub enum Unwritable {
     PartialNode,
     PartialElement,
@@ -26,22 +33,42 @@ pub enum Unwritable {
     NoRoom,
 }
 
-// The answer: how many bytes were written, or why none was.
-#[derive(Clone, Copy)]
-pub enum Written {
-    Length(usize),
-    Refused(Unwritable),
+// The refusal for a fault of the label or the groups.
+impl From<GroupFault> for Unwritable {
+    ghost from_gives = { λ f r. r ≡ unwritable_of f };
+
+    fn from(f: GroupFault) -> Unwritable {
+        match f {
+            GroupFault::Apart => Unwritable::GroupsApart,
+            GroupFault::NameTooLong => Unwritable::NameTooLong,
+            GroupFault::BadByte => Unwritable::BadByte,
+        }
+    }
+}
+
+// The number of a refusal.
+impl From<Unwritable> for u32 {
+    ghost from_gives = { λ r n. n ≡ unwritable_number (unwritable_held r) };
+
+    fn from(r: Unwritable) -> u32 {
+        match r {
+            Unwritable::PartialNode => 2,
+            Unwritable::PartialElement => 3,
+            Unwritable::GroupsApart => 24,
+            Unwritable::NameTooLong => 23,
+            Unwritable::BadByte => 25,
+            Unwritable::TooManyElements => 26,
+            Unwritable::TooLong => 20,
+            Unwritable::NoRoom => 27,
+        }
+    }
 }
 
 // A number, or 65,537 where it is larger.
 fn cap(n: usize) -> usize
     ensures { result ≡ capped n }
 {
-    if limits::MAX_BYTES < n {
-        limits::MAX_BYTES + 1
-    } else {
-        n
-    }
+    n.min(MAX_BYTES + 1)
 }
 
 // The length of the file of so many bytes of label, nodes, elements, groups and bytes of names, or 65,537 where it is longer.
@@ -52,92 +79,63 @@ fn file_length(label: usize, nodes: usize, elements: usize, groups: usize, names
 }
 
 // The answer, before anything is written: the length of the file that fits so many lent bytes, or the first test that fails.
-fn tested(
-    label: &[u8],
-    nodes: &[i32],
-    elements: &[u32],
-    names: &[u8],
-    lengths: &[u32],
-    offsets: &[u32],
-    room: usize,
-) -> Written
-    ensures { written_held result ≡ answer_of (writing lot_file (runs label.now nodes.now elements.now names.now lengths.now offsets.now) room) }
+fn tested(lot: Lot, room: usize) -> Result<usize, Unwritable>
+    ensures { written_held result ≡ answer_of (writing lot_file (lot_held lot.entry) room) }
 {
-    if nodes.len() % 3 != 0 {
-        return Written::Refused(Unwritable::PartialNode);
+    let elements = lot.elements.len() / 8;
+    if lot.nodes.len() % 3 != 0 {
+        return Err(Unwritable::PartialNode);
     }
-    if elements.len() % 8 != 0 {
-        return Written::Refused(Unwritable::PartialElement);
+    if lot.elements.len() % 8 != 0 {
+        return Err(Unwritable::PartialElement);
     }
-    let together = lot_groups::fit_together(lengths, offsets, names.len(), elements.len() / 8);
-    let short = lot_groups::short_names(label.len(), lengths);
-    if !together {
-        return Written::Refused(Unwritable::GroupsApart);
-    }
-    if !short {
-        return Written::Refused(Unwritable::NameTooLong);
-    }
-    if !lot_groups::clean_names(label, names) {
-        return Written::Refused(Unwritable::BadByte);
-    }
-    if limits::MAX_ELEMENTS < elements.len() / 8 {
-        return Written::Refused(Unwritable::TooManyElements);
+    lot_groups::check(lot.label, lot.groups, elements)?;
+    if MAX_ELEMENTS < elements {
+        return Err(Unwritable::TooManyElements);
     }
     let n = file_length(
-        label.len(),
-        nodes.len() / 3,
-        elements.len() / 8,
-        lengths.len(),
-        names.len(),
+        lot.label.len(),
+        lot.nodes.len() / 3,
+        elements,
+        lot.groups.lengths.len(),
+        lot.groups.names.len(),
     );
-    if limits::MAX_BYTES < n {
-        return Written::Refused(Unwritable::TooLong);
+    if MAX_BYTES < n {
+        return Err(Unwritable::TooLong);
     }
     if room < n {
-        return Written::Refused(Unwritable::NoRoom);
+        return Err(Unwritable::NoRoom);
     }
-    Written::Length(n)
+    Ok(n)
 }
 
-// The file of a lot that can be written, from the start of the lent space on.
-fn put_lot(
-    out: &mut [u8],
-    label: &[u8],
-    nodes: &[i32],
-    elements: &[u32],
-    names: &[u8],
-    lengths: &[u32],
-    offsets: &[u32],
-) -> usize
-    requires { Writable lot_file (runs label.now nodes.now elements.now names.now lengths.now offsets.now) (length out.old) }
-    ensures { Laid 0 (written (lot_from (runs label.now nodes.now elements.now names.now lengths.now offsets.now))) out.old out.new result }
+// The entries of a lot that can be written, from the start of the space on.
+fn put_lot(out: &mut Output, lot: Lot)
+    requires { (out.old.at ≡ 0) × Writable lot_file (lot_held lot) (length out.old.space.now) }
+    ensures { Laid out.old (written (lot_from (lot_held lot.entry))) out.new }
 {
-    let labelled = lot_entry_writer::put_label(out, 0, label);
-    let noded = lot_entries_writer::put_nodes(out, labelled, nodes);
-    let grouped = lot_entries_writer::put_grouped(out, noded, elements, names, lengths, offsets);
-    lot_entry_writer::put_end(out, grouped)
+    lot_entry_writer::put_entry(out, Mark::LB, lot.label);
+    lot_entries_writer::put_nodes(out, lot.nodes);
+    lot_entries_writer::put_grouped(out, lot.elements, lot.groups);
+    lot_entry_writer::put_entry(out, Mark::EN, &[]);
+}
+
+// The file of a lot that can be written, at the start of the lent space.
+fn put_file(space: &mut [u8], lot: Lot)
+    requires { Writable lot_file (lot_held lot) (length space.old) }
+    ensures { space.new ≡ put 0 (written (lot_from (lot_held lot.entry))) space.old }
+{
+    let mut out = Output { space, at: 0 };
+    put_lot(&mut out, lot);
 }
 
 // Writes a lot file. The answer is its length, and the file stands at the start of the lent space, whose other bytes stay as they are.
 // Where a test fails, the answer is the first that does, and no byte is written.
-pub fn write(
-    label: &[u8],
-    nodes: &[i32],
-    elements: &[u32],
-    names: &[u8],
-    lengths: &[u32],
-    offsets: &[u32],
-    out: &mut [u8],
-) -> Written
-    ensures result_value { written_held result ≡ answer_of (writing lot_file (runs label.now nodes.now elements.now names.now lengths.now offsets.now) (length out.old)) }
-    ensures out_after { out.new ≡ laid_over (file_of (writing lot_file (runs label.now nodes.now elements.now names.now lengths.now offsets.now) (length out.old))) out.old }
+pub fn write(lot: Lot, out: &mut [u8]) -> Result<usize, Unwritable>
+    ensures result_value { written_held result ≡ answer_of (writing lot_file (lot_held lot.entry) (length out.old)) }
+    ensures out_after { out.new ≡ laid_over (file_of (writing lot_file (lot_held lot.entry) (length out.old))) out.old }
 {
-    let answer = tested(label, nodes, elements, names, lengths, offsets, out.len());
-    match answer {
-        Written::Refused(r) => Written::Refused(r),
-        Written::Length(n) => {
-            put_lot(out, label, nodes, elements, names, lengths, offsets);
-            Written::Length(n)
-        }
-    }
+    let n = tested(lot, out.len())?;
+    put_file(out, lot);
+    Ok(n)
 }

@@ -1,14 +1,17 @@
 -- The pairs of an element's places with one index: how the code searches them, and what refusal 7 says. Assumes nothing.
-use Rattle.std.specs.Prelude.{◌≡◌, Bool, ◌&&◌, List, ◌⊎◌, ℕ, ◌+◌, ◌*◌, ◌-◌, ◌/◌, ◌%◌, ◌<◌, ◌≤◌, eqb, get_or}
+use Rattle.std.specs.Prelude.{◌≡◌, Bool, ◌&&◌, List, ◌⊎◌, ℕ, ◌+◌, ◌*◌, ◌-◌, ◌/◌, ◌%◌, ◌<◌, ◌≤◌, eqb, get_or, length, drop, Option as Found}
+use Rattle.std.specs.List.{position}
+use Rattle.std.specs.Option.{option_map}
 use Rattle.std.proofs.Math.Path.{refl, ap, subst}
-use Rattle.std.proofs.Common.{sym, ◌∙◌, inl, inr}
+use Rattle.std.proofs.Common.{sym, ◌∙◌, inl, inr, length-drop, get_or-drop}
 use Rattle.std.proofs.Math.Bool.{true, false, and-false, and-eq-true_iff, true≢false}
 use Rattle.std.proofs.Math.Option.{Option, none, some}
 use native.Mathlib.Omega.{arith}
 use borrow.Author.Tests.{eq-eqb, ne_eqb, eqb-true, lt-ltb, le-ltb, ltb-true, ltb-false}
 use Rattle.std.proofs.Math.Dec.{ltb}
 use Rattle.definitions.specs.Mesh.{first_from, same_index, named_twice}
-use Rattle.mesh_points.specs.Search.{first_here, first_later, first_over, first_skip, first_below, first_none, first_longer, first_found}
+use Rattle.mesh_points.specs.Search.{first_here, first_later, first_over, first_skip, first_below, first_none, first_longer, first_found, position_behind}
+use Rattle.mesh_points.specs.Meaning.{first_of}
 
 -- of the pairs with this first place, the first with one index
 unfoldable pub same_after : List ℕ → ℕ → Option ℕ
@@ -52,6 +55,20 @@ module _ (ix : List ℕ) where
 
   pub no_later : (i j : ℕ) → j ≡ 8 → later_pairs i j ≡ none
   no_later i j e = first_over (same_index ix) (8 * i + j) (8 * i + 8) (omega arith)
+
+  -- as the library searches the indices behind the first place
+  pub later_found : (i : ℕ) → i < 8 → length ix ≡ 8 → {r : Found ℕ} → r ≡ position (eqb (at i)) (drop (i + 1) ix) → first_of (option_map (λ k. 8 * i + (i + 1) + k) r) ≡ same_after ix i
+  later_found i h n e =
+      ap (λ o. first_of (option_map (λ k. 8 * i + (i + 1) + k) o)) e
+      ∙ position_behind (eqb (at i)) (same_index ix) 0 (8 * i + (i + 1)) (drop (i + 1) ix) (8 * i + 8 - (8 * i + (i + 1))) (simp length-drop (omega arith)) (λ k l. behind k (omega arith))
+      ∙ sym (later_places i h)
+    where
+      behind : (k : ℕ) → i + 1 + k < 8 → eqb (at i) (get_or (drop (i + 1) ix) k 0) ≡ same_index ix (8 * i + (i + 1) + k)
+      behind k l =
+          let s : 8 * i + (i + 1 + k) ≡ 8 * i + (i + 1) + k = omega arith in
+          ap (eqb (at i)) (get_or-drop (i + 1) ix k 0)
+          ∙ sym (ap (λ (b : Bool). b && eqb (at i) (at (i + 1 + k))) (lt-ltb i (i + 1 + k) (omega arith)))
+          ∙ sym (pair_of i (i + 1 + k) l) ∙ ap (same_index ix) s
 
   -- ---- the search of all pairs, from a first place on
   abbrev pub pairs_from : ℕ → Option ℕ

@@ -1,9 +1,7 @@
 -- What the code's answers stand for in the definitions.
 use Rattle.std.proofs.Math.Option.{Option, none, some}
-use Rattle.std.specs.Prelude.{ℕ}
-use Rattle.mesh_points.specs.declared.First.{First}
-use Rattle.mesh_points.specs.declared.First.TheVariants.{At, Nothing}
+use Rattle.std.specs.Prelude.{ℕ, Option as Found, Some, None}
 
-abbrev pub first_of : First → Option ℕ
-first_of (At k) = some k
-first_of Nothing = none
+abbrev pub first_of : Found ℕ → Option ℕ
+first_of (Some k) = some k
+first_of None = none

@@ -17,16 +17,10 @@ pub fn write_records(coordinates: &[i32], indices: &[u32], depth: u32, report: &
     ensures result_value { counts_held result ≡ counts_of (records base coordinates.now indices.now depth) }
     ensures report_after { report.new ≡ report_of base coordinates.now indices.now depth }
 {
-    let mut counts = Counts {
-        valid: 0,
-        invalid: 0,
-        undecided: 0,
-        refused: 0,
-    };
-    let n = indices.len() / 8;
-    for e in 0..n {
-        let at = 8 * e;
-        let words = mesh_element_records::element(coordinates, &indices[at..at + 8], depth);
+    let (elements, _) = indices.as_chunks::<8>();
+    let mut counts = Counts::default();
+    for (e, ix) in elements.iter().enumerate() {
+        let words = mesh_element_records::element(coordinates, ix, depth);
         counts = mesh_report::enter(words, e, counts, report);
     }
     counts

@@ -1,6 +1,7 @@
 -- The report as it is written, element after element: the records so far, their counts, and the space after them.
-use Rattle.std.specs.Prelude.{◌≡◌, refl, true, ℕ, zero, suc, ◌+◌, ◌*◌, ◌-◌, ◌/◌, ◌^◌, ◌<◌, ◌≤◌, take, drop, ℤ}
-use Rattle.std.proofs.Common.{sym, ◌∙◌, ap₂, zero-le, length-append, length-drop, drop_of_length-le, length-take-le}
+use Rattle.std.specs.Prelude.{◌≡◌, refl, true, ℕ, zero, suc, ◌+◌, ◌*◌, ◌-◌, ◌/◌, ◌^◌, ◌<◌, ◌≤◌, take, drop, get_or, ℤ}
+use Rattle.std.specs.Simd.{first_chunks}
+use Rattle.std.proofs.Common.{sym, ◌∙◌, ap₂, zero-le, length-append, length-drop, drop_of_length-le, length-take-le, drop-drop}
 use Rattle.std.proofs.Math.Path.{ap}
 use mathlib.Core.List.{List, [], ◌∷◌, ◌++◌}
 use native.Mathlib.Omega.{arith}
@@ -66,7 +67,14 @@ module _ (L : Limits) (coordinates : List ℤ) (indices : List ℕ) (D : ℕ) wh
   unfolding records
   counts_last_of e h = ap (λ (n : ℕ). counts_of (first_records n)) h
 
--- the part of the index run that the code lends
+-- the eight indices of element e among the index run's eights
+pub chunk_of : (indices : List ℕ) (n e : ℕ) → e < n → get_or (first_chunks 8 n indices) e [] ≡ take 8 (drop (8 * e) indices)
+chunk_of indices zero e h = absurd (omega arith)
+chunk_of indices (suc n) zero h = refl
+chunk_of indices (suc n) (suc e) h = let p : 8 + 8 * e ≡ 8 * suc e = omega arith in
+    chunk_of (drop 8 indices) n e (omega arith) ∙ ap (take 8) (drop-drop (8 * e) 8 indices ∙ ap (λ (k : ℕ). drop k indices) p)
+
+-- the part of the index run that is lent, cut out by its places
 pub part_of : (indices : List ℕ) (e : ℕ) → take (8 * e + 8 - 8 * e) (drop (8 * e) indices) ≡ take 8 (drop (8 * e) indices)
 part_of indices e = let p : 8 * e + 8 - 8 * e ≡ 8 = omega arith in ap (λ (n : ℕ). take n (drop (8 * e) indices)) p
 

@@ -17,46 +17,31 @@ fn put(words: [i64; RECORD_WORDS], e: usize, report: &mut [i64])
     ensures { report.new ≡ take (record_words * e) report.old ++ words ++ drop (record_words * e + record_words) report.old }
 {
     let at = RECORD_WORDS * e;
-    for k in 0..RECORD_WORDS {
-        let x = words[k];
-        report[at + k] = x;
-    }
+    report[at..at + RECORD_WORDS].copy_from_slice(&words);
 }
 
-// The counts with one record more, by its word 0, which is that of a kind.
+// The counts with one record more, by its word 0, which is that of a kind: a number, since a record is nine words (`kind_word` of the definitions).
 fn counted(kind: i64, n: Counts) -> Counts
     requires { (is_kind kind ≡ true) × (counts_total (counts_held n) < 2 ^ 32 - 1) }
     ensures { counts_held result ≡ counted kind (counts_held n) }
 {
-    if kind == 0 {
-        return Counts {
+    match kind {
+        0 => Counts {
             valid: n.valid + 1,
-            invalid: n.invalid,
-            undecided: n.undecided,
-            refused: n.refused,
-        };
-    }
-    if kind == 1 {
-        return Counts {
-            valid: n.valid,
+            ..n
+        },
+        1 => Counts {
             invalid: n.invalid + 1,
-            undecided: n.undecided,
-            refused: n.refused,
-        };
-    }
-    if kind == 2 {
-        return Counts {
-            valid: n.valid,
-            invalid: n.invalid,
+            ..n
+        },
+        2 => Counts {
             undecided: n.undecided + 1,
-            refused: n.refused,
-        };
-    }
-    Counts {
-        valid: n.valid,
-        invalid: n.invalid,
-        undecided: n.undecided,
-        refused: n.refused + 1,
+            ..n
+        },
+        _ => Counts {
+            refused: n.refused + 1,
+            ..n
+        },
     }
 }
 

@@ -3,33 +3,17 @@
 #![tactic(auto)]
 
 ghost use Rattle.std.specs.Prelude.{◌≤◌, length, IfSome};
-ghost use Rattle.print_slip.specs.Input.{Some, Within};
 
 use std::io::{ErrorKind, Read};
 
-// Standard output.
+// Standard output. It is written to by number: where that fails, the program ends quietly, as it did.
 const STDOUT: i32 = 1;
 
 // How often a read is tried. One that signals interrupt so often in a row, without a byte, is taken for a failure.
 const MAX_TRIES: u32 = 1000000000;
 
-// What one read finds: it failed, the input is over, or so many bytes more.
-#[derive(Clone, Copy)]
-enum Chunk {
-    Failed,
-    Over,
-    More(usize),
-}
-
-// The input: not to be read, or so many bytes.
-#[derive(Clone, Copy)]
-enum Input {
-    Unreadable,
-    Whole(usize),
-}
-
-// Reads, again where a signal interrupts it, and puts what comes at the start of the buffer. How many bytes came, or nothing where the
-// read failed.
+// Reads, again where a signal interrupts it, and puts what comes at the start of the buffer. How many bytes came, 0 where the input is
+// over, or nothing where the read failed.
 fn read_through<R: Read>(input: &mut R, buffer: &mut [u8]) -> Option<usize>
     ensures { IfSome result (λ n. n ≤ length buffer.old) }
 {
@@ -48,41 +32,19 @@ fn read_through<R: Read>(input: &mut R, buffer: &mut [u8]) -> Option<usize>
     None
 }
 
-// What one read finds; what comes is put at the start of the buffer.
-fn read_some<R: Read>(input: &mut R, buffer: &mut [u8]) -> Chunk
-    ensures { Some (length buffer.old) result }
-{
-    match read_through(input, buffer) {
-        None => Chunk::Failed,
-        Some(n) => {
-            if n == 0 {
-                return Chunk::Over;
-            }
-            Chunk::More(n)
-        }
-    }
-}
-
-// Reads until the input is over or the buffer is full.
-fn read_input<R: Read>(input: &mut R, buffer: &mut [u8]) -> Input
-    ensures { Within (length buffer.old) result }
+// Reads until the input is over or the buffer is full, which may take any number of reads. How many bytes came, or nothing where a read failed.
+fn read_input<R: Read>(input: &mut R, buffer: &mut [u8]) -> Option<usize>
+    ensures { IfSome result (λ n. n ≤ length buffer.old) }
 {
     let mut n = 0;
     while n < buffer.len() {
-        let chunk = read_some(input, &mut buffer[n..]);
-        match chunk {
-            Chunk::Failed => {
-                return Input::Unreadable;
-            }
-            Chunk::Over => {
-                return Input::Whole(n);
-            }
-            Chunk::More(more) => {
-                n = n + more;
-            }
+        let more = read_through(input, &mut buffer[n..])?;
+        if more == 0 {
+            break;
         }
+        n += more;
     }
-    Input::Whole(n)
+    Some(n)
 }
 
 // Prints the slip of a file.
@@ -95,11 +57,10 @@ fn print(file: &[u8]) {
 fn main(rt: HostRuntime) {
     let mut buffer = [0u8; limits::MAX_BYTES + 1];
     let mut stdin = rt.stdin();
-    let input = read_input(&mut stdin, &mut buffer);
-    match input {
-        Input::Unreadable => {
+    match read_input(&mut stdin, &mut buffer) {
+        None => {
             io::write_all(STDOUT, b"unreadable\n");
         }
-        Input::Whole(n) => print(&buffer[..n]),
+        Some(n) => print(&buffer[..n]),
     }
 }

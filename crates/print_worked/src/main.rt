@@ -2,215 +2,206 @@
 // their bounds where these are worked in no time: to depth 5, and of case F to depth 8.
 #![tactic(auto)]
 
-use inspection_answers::Bounds;
 use limits::{MAX_DEPTH, RECORD_WORDS};
-use wide_number::{Single, Wide};
+use std::{fmt, io};
+use wide_number::Wide;
+
+// A worked element: its eight points, its indices, and the depth to which its bounds are printed.
+#[derive(Clone, Copy)]
+struct Case {
+    name: &'static str,
+    points: [i32; 24],
+    indices: [u32; 8],
+    bounds_to: u32,
+}
 
 const UNIT_CUBE: [i32; 24] = [
     0, 0, 0, 1, 0, 0, 1, 1, 0, 0, 1, 0, 0, 0, 1, 1, 0, 1, 1, 1, 1, 0, 1, 1,
 ];
 
-// A number with its sign.
-fn print_signed(w: i64) {
-    if w < 0 {
-        io::write_all(1, b"-");
-    }
-    io::print_decimal(1, slip_numbers::magnitude(w));
-}
+// The indices of eight nodes in order.
+const IN_ORDER: [u32; 8] = [0, 1, 2, 3, 4, 5, 6, 7];
 
-fn print_record(report: [i64; RECORD_WORDS]) {
-    for k in 0..RECORD_WORDS {
-        io::write_all(1, b" ");
-        let w = report[k];
-        print_signed(w);
-    }
-}
-
-// What word 0 says.
-fn print_kind(kind: i64) {
-    if kind == 0 {
-        io::write_all(1, b"   valid");
-        return;
-    }
-    if kind == 1 {
-        io::write_all(1, b"   invalid");
-        return;
-    }
-    if kind == 2 {
-        io::write_all(1, b"   undecided");
-        return;
-    }
-    io::write_all(1, b"   refused");
-}
-
-// A number of two words: as one number where one word holds it, else by both words.
-fn print_wide(x: Wide) {
-    let held = x.to_i64();
-    match held {
-        Single::Number(number) => {
-            print_signed(number);
-        }
-        Single::TooLong => {
-            print_signed(wide_number::signed(x.high));
-            io::write_all(1, b" * 2^64 + ");
-            io::print_decimal(1, x.low);
-        }
-    }
-}
-
-fn print_bounds(points: [i32; 24], depth: u32) {
-    let answer = inspector::bounds_of(points, depth);
-    match answer {
-        Bounds::Both(low, high) => {
-            io::write_all(1, b", bounds ");
-            print_wide(low);
-            io::write_all(1, b" and ");
-            print_wide(high);
-        }
-        Bounds::TooDeep => {
-            io::write_all(1, b", bounds refused: 1");
-        }
-        Bounds::OutOfRange => {
-            io::write_all(1, b", bounds refused: 6");
-        }
-    }
-}
-
-// One element at one depth, with its bounds or without.
-fn print_line(points: [i32; 24], indices: [u32; 8], depth: u32, with_bounds: bool) {
-    let mut report = [0i64; RECORD_WORDS];
-    inspector::inspect(&points, &indices, depth, &mut report);
-    io::write_all(1, b"   depth ");
-    io::print_decimal(1, depth as u64);
-    io::write_all(1, b":");
-    print_record(report);
-    let kind = report[0];
-    print_kind(kind);
-    if with_bounds {
-        print_bounds(points, depth);
-    }
-    io::write_all(1, b"\n");
-}
-
-// One element at every depth, with its bounds to the depth given.
-fn print_element(name: &[u8], points: [i32; 24], indices: [u32; 8], bounds_to: u32) {
-    io::write_all(1, name);
-    io::write_all(1, b"\n");
-    for depth in 0..MAX_DEPTH + 1 {
-        print_line(points, indices, depth, depth <= bounds_to);
-    }
-}
-
-fn main() {
-    io::write_all(
-        1,
-        b"Each record has nine words: kind (0 valid, 1 invalid, 2 undecided, 5 to 7 refused); level, or place of the fault;\n",
-    );
-    io::write_all(
-        1,
-        b"three grid numbers of the point or cell, or the index, axis or second place at fault; corner or coefficient number; its value\n",
-    );
-    io::write_all(
-        1,
-        b"times 8 * 64^level, low word and high word; cells opened. Both bounds are times 8 * 64^depth.\n\n",
-    );
-    print_element(b"A  unit cube", UNIT_CUBE, [0, 1, 2, 3, 4, 5, 6, 7], 5);
-    print_element(
-        b"B  all eight nodes at one point",
-        [
+const CASES: [Case; 13] = [
+    Case {
+        name: "A  unit cube",
+        points: UNIT_CUBE,
+        indices: IN_ORDER,
+        bounds_to: 5,
+    },
+    Case {
+        name: "B  all eight nodes at one point",
+        points: [
             5, 5, 5, 5, 5, 5, 5, 5, 5, 5, 5, 5, 5, 5, 5, 5, 5, 5, 5, 5, 5, 5, 5, 5,
         ],
-        [0, 1, 2, 3, 4, 5, 6, 7],
-        5,
-    );
-    print_element(
-        b"C  unit cube, nodes 1-4 exchanged with 5-8",
-        [
+        indices: IN_ORDER,
+        bounds_to: 5,
+    },
+    Case {
+        name: "C  unit cube, nodes 1-4 exchanged with 5-8",
+        points: [
             0, 0, 1, 1, 0, 1, 1, 1, 1, 0, 1, 1, 0, 0, 0, 1, 0, 0, 1, 1, 0, 0, 1, 0,
         ],
-        [0, 1, 2, 3, 4, 5, 6, 7],
-        5,
-    );
-    print_element(
-        b"D  flat square, top turned by a quarter",
-        [
+        indices: IN_ORDER,
+        bounds_to: 5,
+    },
+    Case {
+        name: "D  flat square, top turned by a quarter",
+        points: [
             -1, -1, 0, 1, -1, 0, 1, 1, 0, -1, 1, 0, 1, -1, 1, 1, 1, 1, -1, 1, 1, -1, -1, 1,
         ],
-        [0, 1, 2, 3, 4, 5, 6, 7],
-        5,
-    );
-    print_element(
-        b"E  flat square, top turned by a half",
-        [
+        indices: IN_ORDER,
+        bounds_to: 5,
+    },
+    Case {
+        name: "E  flat square, top turned by a half",
+        points: [
             -1, -1, 0, 1, -1, 0, 1, 1, 0, -1, 1, 0, 1, 1, 1, -1, 1, 1, -1, -1, 1, 1, -1, 1,
         ],
-        [0, 1, 2, 3, 4, 5, 6, 7],
-        5,
-    );
-    print_element(
-        b"F  as E, the top twice as wide",
-        [
+        indices: IN_ORDER,
+        bounds_to: 5,
+    },
+    Case {
+        name: "F  as E, the top twice as wide",
+        points: [
             -1, -1, 0, 1, -1, 0, 1, 1, 0, -1, 1, 0, 2, 2, 1, -2, 2, 1, -2, -2, 1, 2, -2, 1,
         ],
-        [0, 1, 2, 3, 4, 5, 6, 7],
-        8,
-    );
-    print_element(
-        b"G  cube of side 3 with node 1 at (1,1,1)",
-        [
+        indices: IN_ORDER,
+        bounds_to: 8,
+    },
+    Case {
+        name: "G  cube of side 3 with node 1 at (1,1,1)",
+        points: [
             1, 1, 1, 3, 0, 0, 3, 3, 0, 0, 3, 0, 0, 0, 3, 3, 0, 3, 3, 3, 3, 0, 3, 3,
         ],
-        [0, 1, 2, 3, 4, 5, 6, 7],
-        5,
-    );
-    print_element(
-        b"H  unit cube with node 3's y at 1,048,577",
-        [
+        indices: IN_ORDER,
+        bounds_to: 5,
+    },
+    Case {
+        name: "H  unit cube with node 3's y at 1,048,577",
+        points: [
             0, 0, 0, 1, 0, 0, 1, 1048577, 0, 0, 1, 0, 0, 0, 1, 1, 0, 1, 1, 1, 1, 0, 1, 1,
         ],
-        [0, 1, 2, 3, 4, 5, 6, 7],
-        5,
-    );
-    print_element(
-        b"   cube from -1,048,576 to 1,048,576",
-        [
+        indices: IN_ORDER,
+        bounds_to: 5,
+    },
+    Case {
+        name: "   cube from -1,048,576 to 1,048,576",
+        points: [
             -1048576, -1048576, -1048576, 1048576, -1048576, -1048576, 1048576, 1048576, -1048576,
             -1048576, 1048576, -1048576, -1048576, -1048576, 1048576, 1048576, -1048576, 1048576,
             1048576, 1048576, 1048576, -1048576, 1048576, 1048576,
         ],
-        [0, 1, 2, 3, 4, 5, 6, 7],
-        5,
-    );
-    print_element(
-        b"I  unit cube with its fourth index 8",
-        UNIT_CUBE,
-        [0, 1, 2, 8, 4, 5, 6, 7],
-        5,
-    );
-    print_element(
-        b"No. 5 of 02: unit cube with index 1 in places 2, 4 and 6; the bounds are of its eight nodes in order",
-        UNIT_CUBE,
-        [0, 1, 2, 1, 4, 1, 6, 7],
-        5,
-    );
-    print_element(
-        b"cube from -1,048,576 to 1,048,575, nodes 1-4 exchanged with 5-8",
-        [
+        indices: IN_ORDER,
+        bounds_to: 5,
+    },
+    Case {
+        name: "I  unit cube with its fourth index 8",
+        points: UNIT_CUBE,
+        indices: [0, 1, 2, 8, 4, 5, 6, 7],
+        bounds_to: 5,
+    },
+    Case {
+        name: "No. 5 of 02: unit cube with index 1 in places 2, 4 and 6; the bounds are of its eight nodes in order",
+        points: UNIT_CUBE,
+        indices: [0, 1, 2, 1, 4, 1, 6, 7],
+        bounds_to: 5,
+    },
+    Case {
+        name: "cube from -1,048,576 to 1,048,575, nodes 1-4 exchanged with 5-8",
+        points: [
             -1048576, -1048576, 1048575, 1048575, -1048576, 1048575, 1048575, 1048575, 1048575,
             -1048576, 1048575, 1048575, -1048576, -1048576, -1048576, 1048575, -1048576, -1048576,
             1048575, 1048575, -1048576, -1048576, 1048575, -1048576,
         ],
-        [0, 1, 2, 3, 4, 5, 6, 7],
-        5,
-    );
-    print_element(
-        b"F as large as it can be",
-        [
+        indices: IN_ORDER,
+        bounds_to: 5,
+    },
+    Case {
+        name: "F as large as it can be",
+        points: [
             -524288, -524288, 0, 524288, -524288, 0, 524288, 524288, 0, -524288, 524288, 0,
             1048576, 1048576, 524288, -1048576, 1048576, 524288, -1048576, -1048576, 524288,
             1048576, -1048576, 524288,
         ],
-        [0, 1, 2, 3, 4, 5, 6, 7],
-        5,
-    );
+        indices: IN_ORDER,
+        bounds_to: 5,
+    },
+];
+
+// A bound: as one number where one word holds it, else by both words.
+#[derive(Clone, Copy)]
+struct Bound(Wide);
+
+impl fmt::Display for Bound {
+    fn fmt<W: fmt::Write>(&self, f: &mut fmt::Formatter<W>) -> fmt::Result {
+        let Some(number) = self.0.to_i64() else {
+            let high = wide_number::signed(self.0.high);
+            let low = self.0.low;
+            return write!(f, "{high} * 2^64 + {low}");
+        };
+        write!(f, "{number}")
+    }
+}
+
+// What word 0 of a record says, which is a number there.
+fn verdict(kind: i64) -> &'static str {
+    match kind {
+        0 => "valid",
+        1 => "invalid",
+        2 => "undecided",
+        _ => "refused",
+    }
+}
+
+fn print_bounds(rt: &impl Print, points: [i32; 24], depth: u32) -> io::Result<()> {
+    match inspector::bounds_of(points, depth) {
+        Ok(b) => print!(rt; ", bounds {} and {}", Bound(b.low), Bound(b.high)),
+        Err(refusal) => {
+            let number = u32::from(refusal);
+            print!(rt; ", bounds refused: {number}")
+        }
+    }
+}
+
+// A case at one depth: its record, and its bounds as far as they are printed.
+fn print_line(rt: &impl Print, case: &Case, depth: u32) -> io::Result<()> {
+    let mut report = [0; RECORD_WORDS];
+    // The record says all that is printed.
+    let _ = inspector::inspect(&case.points, &case.indices, depth, &mut report);
+    print!(rt; "   depth {depth}:")?;
+    for w in report {
+        print!(rt; " {w}")?;
+    }
+    print!(rt; "   {}", verdict(report[0]))?;
+    if depth <= case.bounds_to {
+        print_bounds(rt, case.points, depth)?;
+    }
+    println!(rt; "")
+}
+
+// A case at every depth.
+fn print_case(rt: &impl Print, case: &Case) -> io::Result<()> {
+    println!(rt; "{}", case.name)?;
+    for depth in 0..=MAX_DEPTH {
+        print_line(rt, case, depth)?;
+    }
+    Ok(())
+}
+
+fn main(rt: HostRuntime) -> io::Result<()> {
+    println!(rt;
+        "Each record has nine words: kind (0 valid, 1 invalid, 2 undecided, 5 to 7 refused); level, or place of the fault;"
+    )?;
+    println!(rt;
+        "three grid numbers of the point or cell, or the index, axis or second place at fault; corner or coefficient number; its value"
+    )?;
+    println!(rt;
+        "times 8 * 64^level, low word and high word; cells opened. Both bounds are times 8 * 64^depth."
+    )?;
+    println!(rt; "")?;
+    for case in &CASES {
+        print_case(&rt, case)?;
+    }
+    Ok(())
 }

@@ -1,16 +1,20 @@
--- What the words of a pass stand for.
-use Rattle.std.specs.Prelude.{List, [], ◌∷◌, ◌++◌, ℕ, ℤ, pos}
-use Rattle.definitions.specs.TwoWords.{two_words}
-use Rattle.verdict_theory.specs.Search.{Found, nothing, coefficient, point, Pass}
+-- What is found, as the theorems speak of it.
+use Rattle.std.specs.Prelude.{Bool, true, false}
+use Rattle.definitions.specs.Verdict.{Finding}
+use Rattle.verdict_theory.specs.Search.{Found, nothing, coefficient, point}
+use Rattle.search_pass.specs.declared.Finding.{Finding as HeldFinding}
+use Rattle.search_pass.specs.declared.Found.{Found as HeldFound}
+use Rattle.search_pass.specs.declared.Found.TheVariants.{Nothing, Coefficient, Corner}
 
--- A pass is eight words: what was found (0 nothing, 1 a low corner, 2 a low coefficient), its grid numbers, its number, its value, low word and high word, and how many cells were opened.
-abbrev pub layout : ℕ → ℕ → ℕ → ℕ → ℕ → ℤ → ℕ → List ℤ
-layout kind a b c number value count = pos kind ∷ pos a ∷ pos b ∷ pos c ∷ pos number ∷ (two_words value ++ (pos count ∷ []))
+abbrev pub finding_of : HeldFinding → Finding
+finding_of f = record { number = f.number; a = f.place.a; b = f.place.b; c = f.place.c; value = f.value }
 
-abbrev pub found_words : Found → ℕ → List ℤ
-found_words nothing n = layout 0 0 0 0 0 (pos 0) n
-found_words (coefficient f) n = layout 2 f.a f.b f.c f.number f.value n
-found_words (point f) n = layout 1 f.a f.b f.c f.number f.value n
+abbrev pub found_of : HeldFound → Found
+found_of Nothing = nothing
+found_of (Coefficient f) = coefficient (finding_of f)
+found_of (Corner f) = point (finding_of f)
 
-abbrev pub pass_words : Pass → List ℤ
-pass_words p = found_words p.found p.count
+abbrev pub found_nothing : Found → Bool
+found_nothing nothing = true
+found_nothing (coefficient f) = false
+found_nothing (point f) = false

@@ -1,40 +1,40 @@
-// The slip by the answer of the reader, whose lent runs are handed in, laid over lent space from a place on; it returns the place
-// behind it. An inner crate: its callers see that there is room, and that the words which the answer counts are there.
+// The slip by the answer of the reader, whose lent space is handed in, written to lent space. An inner crate: its callers see that there is
+// room, and that the words which the answer counts are there.
 #![tactic(auto)]
 
-ghost use Rattle.std.specs.Prelude.{◌≡◌, ◌+◌, ◌*◌, ◌≤◌, length};
+ghost use Rattle.std.specs.Prelude.{◌≡◌, ◌*◌, length};
 ghost use Rattle.definitions.specs.Limits.{record_words};
 ghost use Rattle.slip_format.specs.Slip.{slip_limits};
-ghost use Rattle.bytes_output.specs.Behind.{Laid};
+ghost use Rattle.lot_runs.specs.Meaning.{space_held};
+ghost use Rattle.bytes_output.specs.Behind.{Room, Laid};
+ghost use Rattle.lot_reader.specs.Meaning.{label_told, numbers_told};
 ghost use Rattle.slip_meshes.specs.Counted.{lent, Counted};
 ghost use Rattle.slip_answers.specs.Answered.{answered_slip};
 
+use bytes_output::Output;
+use limits::SLIP_ELEMENTS;
+use lot_entry_reader::Unreadable;
+use lot_reader::Contents;
+use lot_runs::Space;
+
 // The slip by the answer of the reading, and by how many elements it counts.
-pub fn answered_slip<'a>(
-    out: &mut [u8],
-    at: usize,
-    label: &'a [u8],
-    nodes: &[i32],
-    elements: &[u32],
-    names: &'a [u8],
-    lengths: &[u32],
-    offsets: &[u32],
+pub fn answered_slip(
+    out: &mut Output,
+    answer: Result<Contents, Unreadable>,
+    space: &Space,
     report: &mut [i64],
-    answer: [u32; 5],
-) -> usize
-    requires counted { Counted (lent label.now nodes.now elements.now names.now lengths.now offsets.now) answer × (length report.old ≡ record_words * slip_limits.elements) }
-    requires answer_in_bounds { at + length (answered_slip (lent label.now nodes.now elements.now names.now lengths.now offsets.now) answer) ≤ length out.old }
-    ensures { Laid at (answered_slip (lent label.now nodes.now elements.now names.now lengths.now offsets.now) answer) out.old out.new result }
+)
+    requires counted { Counted (lent (label_told answer) (space_held space.now)) (numbers_told answer) × (length report.old ≡ record_words * slip_limits.elements) }
+    requires answer_in_bounds { Room out.old (answered_slip (lent (label_told answer) (space_held space.now)) (numbers_told answer)) }
+    ensures { Laid out.old (answered_slip (lent (label_told answer.entry) (space_held space.now)) (numbers_told answer.entry)) out.new }
 {
-    let number = answer[0];
-    if number != 0 {
-        return slip_lines::refused_line(out, at, number);
+    match answer {
+        Err(refusal) => slip_lines::refused_line(out, u32::from(refusal)),
+        Ok(contents) => {
+            if SLIP_ELEMENTS < contents.elements as usize {
+                return slip_lines::refused_line(out, u32::from(Unreadable::TooManyElements));
+            }
+            slip_meshes::read_slip(out, contents, space, report)
+        }
     }
-    let count = answer[2] as usize;
-    if limits::SLIP_ELEMENTS < count {
-        return slip_lines::refused_line(out, at, 26);
-    }
-    slip_meshes::read_slip(
-        out, at, label, nodes, elements, names, lengths, offsets, report, answer,
-    )
 }

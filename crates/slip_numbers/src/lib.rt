@@ -1,51 +1,38 @@
-// Numbers in decimal, laid over lent space from a place on; each function returns the place behind its text. An inner crate: its callers see
-// that there is room. Every text is the one that `Decimal` of the crate `slip_format` defines.
+// Numbers in decimal, written to lent space digit by digit, since there is no heap to format in. An inner crate: its callers see that there is room. Every text is the one that `Decimal` of the
+// crate `slip_format` defines.
 #![tactic(auto)]
 
-ghost use Rattle.std.specs.Prelude.{◌≡◌, ◌+◌, ◌≤◌, ◌<◌, length, nat_abs};
+ghost use Rattle.std.specs.Prelude.{◌≡◌, nat_abs};
 ghost use Rattle.slip_format.specs.Decimal.{decimal, signed_decimal};
-ghost use Rattle.bytes_output.specs.Behind.{Laid};
+ghost use Rattle.bytes_output.specs.Behind.{Room, Laid};
 
-// The digit of a number below ten.
-fn digit(x: u64) -> u8
-    requires { x < 10 }
-    ensures { result ≡ 48 + x }
-{
-    48 + x as u8
-}
+use bytes_output::Output;
 
 // A number in decimal.
-pub fn decimal(out: &mut [u8], at: usize, x: u64) -> usize
-    requires { at + length (decimal x) ≤ length out.old }
-    ensures { Laid at (decimal x) out.old out.new result }
+pub fn decimal(out: &mut Output, x: u64)
+    requires { Room out.old (decimal x) }
+    ensures { Laid out.old (decimal x) out.new }
 {
-    if x < 10 {
-        return bytes_output::byte(out, at, digit(x));
+    if 10 <= x {
+        decimal(out, x / 10);
     }
-    let next = decimal(out, at, x / 10);
-    bytes_output::byte(out, next, digit(x % 10))
+    out.byte(b'0' + (x % 10) as u8);
 }
 
 // How far a number is from zero.
 pub fn magnitude(w: i64) -> u64
     ensures { result ≡ nat_abs w }
 {
-    if w < 0 {
-        return (-(w + 1)) as u64 + 1;
-    }
-    w as u64
+    w.unsigned_abs()
 }
 
 // A number in decimal, with a minus before one below zero.
-pub fn signed(out: &mut [u8], at: usize, w: i64) -> usize
-    requires { at + length (signed_decimal w) ≤ length out.old }
-    ensures { Laid at (signed_decimal w) out.old out.new result }
+pub fn signed(out: &mut Output, w: i64)
+    requires { Room out.old (signed_decimal w) }
+    ensures { Laid out.old (signed_decimal w) out.new }
 {
-    let x = magnitude(w);
-    let negative = w < 0;
-    if negative {
-        let next = bytes_output::byte(out, at, b'-');
-        return decimal(out, next, x);
+    if w < 0 {
+        out.byte(b'-');
     }
-    decimal(out, at, x)
+    decimal(out, magnitude(w));
 }

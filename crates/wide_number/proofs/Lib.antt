@@ -1,2 +1,1 @@
-mod Carry
-mod TwosComplement
+mod Bits

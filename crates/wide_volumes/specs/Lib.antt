@@ -1,4 +1,3 @@
-pub mod Begun
 pub mod Digits
 pub mod Range
 pub mod Sizes

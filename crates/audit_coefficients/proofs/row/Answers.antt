@@ -1,33 +1,52 @@
--- `row` meets its contract: the sum of the terms behind k, modulo 2^128. Assumes nothing.
-use mathlib.Core.Path.{◌≡◌, ◌∙◌, ap, ap₂}
+-- `row` meets its contract: the sum of the terms behind k. Assumes nothing.
+use mathlib.Core.Path.{◌≡◌, sym, ap₂, subst, ◌∙◌}
 use mathlib.Core.List.{List}
-use Prim.Native.Nat.{◌-◌}
+use Prim.Native.Nat.{ℕ, ◌+◌, ◌-◌, ◌*◌, ◌≤◌}
 use native.Mathlib.Omega.{arith}
-use borrow.Author.Rules.{rules}
-use lib.Dec.{lit≤}
-use lib.IntN.{ℤ, ◌+ℤ◌, ◌*ℤ◌}
-use mir.Syntax.{w64}
-use mir.Val.{SFits, to_z, of_z}
+use lib.IntN.{ℤ, nat_abs, ◌+ℤ◌, ◌*ℤ◌}
+use mir.Syntax.{w64, w128}
+use mir.Val.{to_z}
 use mir.Facts.{to_z-of_z}
-use Rattle.definitions.specs.TwoWords.{value}
-use Rattle.wide_number.specs.Meaning.{value_of, modulo}
-use Rattle.audit_coefficients.specs.Rows.{terms_from, no_terms, term_added, entry_of, number_of, all_terms}
+use Rattle.foundation.specs.Words.{args, within}
+use Rattle.wrapping_theory.specs.Runs.{size_fits}
+use Rattle.audit_volumes.specs.Limits.{volume_limit}
+use Rattle.audit_coefficients.specs.Rows.{entry_limit, entry_of, entry_small, Summed, none_summed, summed_small, one_summed, all_terms}
 use Rattle.audit_coefficients.proofs.row.Goals as goal
 
--- what a call is given: an entry that a local reads back, and a volume
-given : (x : ℤ) {y y' : ℤ} (z : ℤ) → SFits w64 x → y ≡ y' → modulo (to_z w64 (of_z w64 x) *ℤ y +ℤ z) ≡ modulo (x *ℤ y' +ℤ z)
-given x z f e = ap₂ (λ (u v : ℤ). modulo (u *ℤ v +ℤ z)) (to_z-of_z f) e
-
 pub loop-k-init : goal.loop-k-init
-loop-k-init c = (lit≤ tt, no_terms (entry_of c.args.table.now c.args.n) (number_of c.args.v.now) c.from_i64-sum.ensures)
+loop-k-init c = none_summed (entry_of c.args.table.now c.args.n) (args c.args.v.now)
 
-pub loop-k-preserved : goal.loop-k-preserved
-loop-k-preserved c = let a = c in let l = c in let s = c in (
-  omega (arith, l.loop-k.invariant.0),
-  term_added (entry_of s.args.table.now s.args.n) (number_of s.args.v.now) l.loop-k.k (omega arith) l.loop-k.invariant.0 l.loop-k.invariant.1
-      (c.with_entry-sum.ensures ∙ given (entry_of s.args.table.now s.args.n (l.loop-k.k - 1)) (value_of l.loop-k.sum) (record { sfits = search rules }) (ap₂ value a.at-volume.ensures.0 a.at-volume.ensures.1)),
+-- the entry and the volume of a turn
+module _ (c : goal.After-with_entry-arg-in-loop-k-1) where
+  abbrev k : ℕ
+  k = c.loop-k.k - 1
+
+  abbrev entry : ℤ
+  entry = entry_of c.args.table.now c.args.n k
+
+  abbrev volume : ℤ
+  volume = args c.args.v.now k
+
+  entry_within : nat_abs entry ≤ entry_limit
+  entry_within = subst (λ (xs : List ℤ). nat_abs (entry_of xs c.args.n k) ≤ entry_limit) (sym c.requires.table.same) (entry_small (20 * c.args.n + k) (omega (arith, c.requires.number, c.loop-k.auto.k, c.loop-k-test.true)))
+
+  volume_within : nat_abs volume ≤ volume_limit
+  volume_within = within volume_limit c.args.v.now c.requires.volumes k
+
+pub with_entry-sum-requires : goal.with_entry-sum-requires
+with_entry-sum-requires c = (
+  subst (λ (z : ℤ). nat_abs z ≤ entry_limit) (sym (to_z-of_z (size_fits w64 entry_limit (entry c) (entry_within c) tt))) (entry_within c),
+  subst (λ (z : ℤ). nat_abs z ≤ volume_limit) (sym (to_z-of_z (size_fits w128 volume_limit (volume c) (volume_within c) tt))) (volume_within c),
+  summed_small c.loop-k.invariant,
 )
 
+pub loop-k-preserved : goal.loop-k-preserved
+loop-k-preserved c = let a = c.before in
+    one_summed (entry_of c.args.table.now c.args.n) (args c.args.v.now) c.loop-k.k c.loop-k-test.true c.loop-k.invariant (entry_within a) (volume_within a)
+    (to_z-of_z {w = w128} (record { sfits = c.with_entry-sum.type_inv }) ∙ c.with_entry-sum.ensures
+    ∙ ap₂ (λ (x y : ℤ). x *ℤ y +ℤ to_z w128 c.loop-k.sum-bits) (to_z-of_z (size_fits w64 entry_limit (entry a) (entry_within a) tt)) (to_z-of_z (size_fits w128 volume_limit (volume a) (volume_within a) tt)))
+
 pub returns : goal.returns
-returns c = let l = c in let s = c in let n = s.args.n in let v = s.args.v.now in let e : l.loop-k.k ≡ 0 = omega arith in
-    l.loop-k.invariant.1 ∙ ap modulo (ap (terms_from (entry_of s.args.table.now n) (number_of v)) e ∙ ap (λ (xs : List ℤ). terms_from (entry_of xs n) (number_of v) 0) s.requires.fact_1.same ∙ all_terms v n s.requires.fact_2)
+returns c = let v = args c.args.v.now in let n = c.args.n in let e : c.loop-k.k ≡ 0 = omega (arith, c.loop-k-test.false) in
+    all_terms n c.requires.number c.args.v.now c.told-v
+    (subst (λ (xs : List ℤ). Summed (entry_of xs n) v 0 (to_z w128 c.loop-k.sum-bits)) c.requires.table.same (subst (λ (k : ℕ). Summed (entry_of c.args.table.now n) v k (to_z w128 c.loop-k.sum-bits)) e c.loop-k.invariant))

@@ -1,29 +1,30 @@
--- `with_entry` meets its contract: 0 times a number adds nothing. Assumes nothing.
-use mathlib.Core.Path.{◌≡◌, sym, ◌∙◌, ap}
+-- `with_entry` meets its contract: product and sum fit 128 bits. Assumes nothing.
+use mathlib.Core.Path.{◌∙◌, ap}
 use mathlib.Core.List.{[], ◌∷◌}
-use native.Mathlib.Omega.{arith}
-use lib.IntN.{ℤ, pos, ◌+ℤ◌, ◌*ℤ◌}
-use mir.Syntax.{w64, w128}
-use mir.Val.{to_z}
+use Prim.Native.Nat.{ℕ, zero, suc, ◌≤◌, zero-le}
+use lib.ListN.{get_or}
+use lib.IntN.{ℤ, nat_abs, ◌+ℤ◌, ◌*ℤ◌}
+use mir.Syntax.{w128}
 use mir.Facts.{to_z-of_z}
-use Rattle.foundation.specs.Polynomial.{var, con, add, mul, solve}
-use Rattle.foundation.specs.Words.{args}
-use Rattle.wrapping_theory.specs.Words.{value_fits}
-use Rattle.wrapping_theory.specs.Wrapping.{exact}
-use Rattle.wide_number.specs.Meaning.{value_of, modulo}
-use Rattle.audit_coefficients.specs.Rows.{modulo_left}
+use Rattle.std.proofs.Common.{subst, sym}
+use Rattle.foundation.specs.Words.{Op, arg, times, plus, args}
+use Rattle.audit_theory.specs.Exact.{held_is}
+use Rattle.audit_volumes.specs.Limits.{volume_limit}
+use Rattle.audit_coefficients.specs.Rows.{entry_limit, sum_limit}
 use Rattle.audit_coefficients.proofs.with_entry.Goals as goal
 
-nothing_added : (x y z : ℤ) → x ≡ pos 0 → z ≡ x *ℤ y +ℤ z
-nothing_added x y z e = sym (ap (λ (t : ℤ). t *ℤ y +ℤ z) e ∙ solve (args (y ∷ z ∷ [])) (add (mul (con (pos 0)) (var 0)) (var 1)) (var 1) tt)
+abbrev whole : Op
+whole = plus (times (arg 0) (arg 1)) (arg 2)
 
-pub returns-then-entry-eq0 : goal.returns-then-entry-eq0
-returns-then-entry-eq0 c = let s = c in
-    sym (exact w128 (value_fits s.args.sum.low s.args.sum.high (record { low_word_fits = omega arith; high_word_fits = omega arith })))
-    ∙ ap modulo (nothing_added s.args.entry (value_of s.args.volume) (value_of s.args.sum) (sym (to_z-of_z s.ranges.entry) ∙ ap (to_z w64) c.if-entry-eq0.true))
+-- an entry, a volume and a sum with their limits
+bounded : (x y z : ℤ) → nat_abs x ≤ entry_limit → nat_abs y ≤ volume_limit → nat_abs z ≤ sum_limit → (i : ℕ) → nat_abs (args (x ∷ y ∷ z ∷ []) i) ≤ get_or (entry_limit ∷ volume_limit ∷ sum_limit ∷ []) i 0
+bounded x y z p q r zero = p
+bounded x y z p q r (suc zero) = q
+bounded x y z p q r (suc (suc zero)) = r
+bounded x y z p q r (suc (suc (suc i))) = zero-le
 
 pub returns : goal.returns
-returns c = let t = c.before in let f = t.before in let s = f in let y = value_of s.args.volume in let z = value_of s.args.sum in
-    c.add.ensures
-    ∙ ap (λ (u : ℤ). modulo (u +ℤ z)) (t.mul-term.ensures ∙ ap (λ (x : ℤ). modulo (x *ℤ y)) (f.from_i64-factor.ensures ∙ to_z-of_z s.ranges.entry))
-    ∙ modulo_left (s.args.entry *ℤ y) z
+returns c = let x = c.from.result in let y = c.args.volume in let z = c.args.sum in let read = c.from.ensures ∙ to_z-of_z c.ranges.entry in
+    held_is w128 (args (x ∷ y ∷ z ∷ [])) (λ i. get_or (entry_limit ∷ volume_limit ∷ sum_limit ∷ []) i 0)
+    (bounded x y z (subst (λ (e : ℤ). nat_abs e ≤ entry_limit) (sym read) c.requires.0) c.requires.1 c.requires.2) whole tt
+    ∙ ap (λ (e : ℤ). e *ℤ y +ℤ z) read

@@ -14,38 +14,38 @@ use Rattle.search_theory.specs.Meaning.{cell_of, Room}
 use Rattle.audit_theory.specs.Walk.{Notes, opened, through, walk, walk_last, walk_by}
 use Rattle.audit_theory.specs.Cuts.{first_cut, second_cut, third_cut, InQuarters, made_room, made_cell, over, over_next, over_all, levels_left, same_levels, last_levels, none_more}
 use Rattle.audit_theory.proofs.Counted.{over_room}
-use Rattle.wide_array.specs.Values.{values}
-use Rattle.wide_array.specs.Word.{largest}
-use Rattle.audit_notes.specs.Meaning.{notes_of}
+use Rattle.audit_cut.specs.Word.{largest}
+use Rattle.audit_notes.specs.Meaning.{cell_at, notes_of}
+use Rattle.audit_cycle.specs.Children.{one_level, quarters_cut, child_is}
 use Rattle.audit_cycle.proofs.+eta_xi_zeta.Goals as goal
 
 -- ---- η
 pub eta-cut-requires : goal.eta-cut-requires
-eta-cut-requires t c = let h = c.requires.0 in (subst (Cuttable largest) (sym h.halves.lower_is) (second_cut largest h.control _ h.room.small 0 0), omega arith, refl, refl)
+eta-cut-requires t c = let h = c.requires.0 in subst (Cuttable largest) (sym h.halves.lower_is) (second_cut largest h.control _ h.room.small 0 0)
 
 pub eta-cut-requires-2 : goal.eta-cut-requires-2
-eta-cut-requires-2 t c = let h = c.requires.0 in (subst (Cuttable largest) (sym h.halves.upper_is) (second_cut largest h.control _ h.room.small 0 1), omega arith, refl, refl)
+eta-cut-requires-2 t c = let h = c.requires.0 in subst (Cuttable largest) (sym h.halves.upper_is) (second_cut largest h.control _ h.room.small 0 1)
 
 -- ---- ξ
 pub xi-returns-then-left-eq0 : goal.xi-returns-then-left-eq0
 xi-returns-then-left-eq0 t c = let s = c.args in
-    c.noted.ensures ∙ walk_last (s.left / 3) (cell_of s.a s.b s.c (values s.g.now)) (notes_of s.n) (last_levels s.left c.if-left-eq0.true)
+    c.noted.ensures ∙ walk_last (s.left / 3) (cell_at s.p s.g.now) (notes_of s.n) (last_levels s.left c.if-left-eq0.true)
 
 pub xi-returns-then-stops : goal.xi-returns-then-stops
-xi-returns-then-stops t c = let s = c.args in let x = cell_of s.a s.b s.c (values s.g.now) in
+xi-returns-then-stops t c = let s = c.args in let x = cell_at s.p s.g.now in
     let levels : suc ((s.left - 1) / 3) ≡ s.left / 3 = omega (arith, levels_left s.left c.requires.1 c.if-left-eq0.false) in
-    walk_by ((s.left - 1) / 3) x (notes_of s.n) true (sym (c.stops.ensures s.a s.b s.c) ∙ c.if-stops.true) ∙ ap (λ (m : ℕ). walk m x (notes_of s.n)) levels
+    walk_by ((s.left - 1) / 3) x (notes_of s.n) true (sym (c.stops.ensures s.p.a s.p.b s.p.c) ∙ c.if-stops.true) ∙ ap (λ (m : ℕ). walk m x (notes_of s.n)) levels
 
 pub xi-cut-requires : goal.xi-cut-requires
 xi-cut-requires t c = let s = c.args in
-    let room = subst (λ (m : ℕ). Room largest (values s.g.now) s.a s.b s.c m) (levels_left s.left c.requires.1 c.if-left-eq0.false) c.requires.0 in
-    (first_cut largest (values s.g.now) ((s.left - 1) / 3) room.small, omega arith, refl, refl)
+    let room = subst (λ (m : ℕ). Room largest s.g.now s.p.a s.p.b s.p.c m) (levels_left s.left c.requires.1 c.if-left-eq0.false) c.requires.0 in
+    first_cut largest s.g.now ((s.left - 1) / 3) room.small
 
 pub xi-returns : goal.xi-returns
-xi-returns t c = let s = c.args in let x = cell_of s.a s.b s.c (values s.g.now) in
+xi-returns t c = let s = c.args in let x = cell_at s.p s.g.now in
     let levels : suc ((s.left - 1) / 3) ≡ s.left / 3 = omega (arith, levels_left s.left c.requires.1 c.if-left-eq0.false) in
-    c.eta.ensures (values s.g.now) (record { lower_is = c.cut.ensures.0; upper_is = c.cut.ensures.1 })
-    ∙ walk_by ((s.left - 1) / 3) x (notes_of s.n) false (sym (c.stops.ensures s.a s.b s.c) ∙ c.if-stops.false) ∙ ap (λ (m : ℕ). walk m x (notes_of s.n)) levels
+    c.eta.ensures s.g.now (record { lower_is = c.cut.ensures.0; upper_is = c.cut.ensures.1 })
+    ∙ walk_by ((s.left - 1) / 3) x (notes_of s.n) false (sym (c.stops.ensures s.p.a s.p.b s.p.c) ∙ c.if-stops.false) ∙ ap (λ (m : ℕ). walk m x (notes_of s.n)) levels
 
 -- ---- ζ
 -- the next child gone through
@@ -65,87 +65,26 @@ child_asks left a b c n h third fits k l d p q r e = let deep = (left - 1) / 3 i
       over_room (cell_of a b c h.control) deep n k l (subst (λ (m : ℕ). opened n + 8 ^ (m + 1) < 2 ^ 32) same fits) d,
     )
 
-pub zeta-cut-requires : goal.zeta-cut-requires
-zeta-cut-requires t c = let h = c.requires.0 in (subst (Cuttable largest) (sym h.quarters.first_is) (third_cut largest h.control _ h.room.small 0 0 1 0), omega arith, refl, refl)
+pub zeta-eighths-children-requires : goal.zeta-eighths-children-requires
+zeta-eighths-children-requires t c = let h = c.requires.0 in quarters_cut h.control c.args.quarters.now h.quarters largest (c.args.left / 3) h.room.small
 
-pub zeta-cut-requires-2 : goal.zeta-cut-requires-2
-zeta-cut-requires-2 t c = let h = c.requires.0 in (subst (Cuttable largest) (sym h.quarters.second_is) (third_cut largest h.control _ h.room.small 0 1 1 0), omega arith, refl, refl)
+pub zeta-child_point-requires : goal.zeta-child_point-requires
+zeta-child_point-requires t c = let r = c.requires.0.room in (one_level c.args.p.a (c.args.left / 3) r.a_grid, one_level c.args.p.b (c.args.left / 3) r.b_grid, one_level c.args.p.c (c.args.left / 3) r.c_grid)
 
-pub zeta-cut-requires-3 : goal.zeta-cut-requires-3
-zeta-cut-requires-3 t c = let h = c.requires.0 in (subst (Cuttable largest) (sym h.quarters.third_is) (third_cut largest h.control _ h.room.small 0 1 1 1), omega arith, refl, refl)
+pub zeta-loop-k-init : goal.zeta-loop-k-init
+zeta-loop-k-init t c = λ g q. refl
 
-pub zeta-cut-requires-4 : goal.zeta-cut-requires-4
-zeta-cut-requires-4 t c = let h = c.requires.0 in (subst (Cuttable largest) (sym h.quarters.fourth_is) (third_cut largest h.control _ h.room.small 0 0 1 1), omega arith, refl, refl)
+pub zeta-xi-notes-requires : goal.zeta-xi-notes-requires
+zeta-xi-notes-requires t c = let s = c.args in let p = s.p in let h = c.requires.0 in let k = c.loop-k.k in let at = c.child_point.ensures in
+    (omega (arith, c.decreases, c.requires.1), child_asks s.left p.a p.b p.c (notes_of s.n) h c.requires.1 c.requires.2 k c.loop-k-test.true (c.loop-k.invariant h.control h.quarters) at.0 at.1 at.2 (child_is h.control s.quarters.now h.quarters c.eighths-children.ensures k c.loop-k-test.true))
 
-pub zeta-xi-n1-requires : goal.zeta-xi-n1-requires
-zeta-xi-n1-requires t c = let s = c.args in let h = c.requires.0 in
-    (omega (arith, c.decreases, c.requires.1), child_asks s.left s.a s.b s.c (notes_of s.n) h c.requires.1 c.requires.2 0 (omega arith) refl (none_more (2 * s.a)) (none_more (2 * s.b)) (none_more (2 * s.c)) (c.cut.ensures.0 ∙ ap (halve 2 0) h.quarters.first_is))
-
-pub zeta-xi-n2-requires : goal.zeta-xi-n2-requires
-zeta-xi-n2-requires t c = let s = c.args in let h = c.requires.0 in let deep = (s.left - 1) / 3 in
-    let d1 = gone s.a s.b s.c deep (notes_of s.n) h.control 0 refl (none_more (2 * s.a)) (none_more (2 * s.b)) (none_more (2 * s.c)) (c.cut.ensures.0 ∙ ap (halve 2 0) h.quarters.first_is) c.xi-n1.ensures in
-    (omega (arith, c.decreases, c.requires.1), child_asks s.left s.a s.b s.c (notes_of s.n) h c.requires.1 c.requires.2 1 (omega arith) d1 refl (none_more (2 * s.b)) (none_more (2 * s.c)) (c.cut-2.ensures.0 ∙ ap (halve 2 0) h.quarters.second_is))
-
-pub zeta-xi-n3-requires : goal.zeta-xi-n3-requires
-zeta-xi-n3-requires t c = let s = c.args in let h = c.requires.0 in let deep = (s.left - 1) / 3 in
-    let d1 = gone s.a s.b s.c deep (notes_of s.n) h.control 0 refl (none_more (2 * s.a)) (none_more (2 * s.b)) (none_more (2 * s.c)) (c.cut.ensures.0 ∙ ap (halve 2 0) h.quarters.first_is) c.xi-n1.ensures in
-    let d2 = gone s.a s.b s.c deep (notes_of s.n) h.control 1 d1 refl (none_more (2 * s.b)) (none_more (2 * s.c)) (c.cut-2.ensures.0 ∙ ap (halve 2 0) h.quarters.second_is) c.xi-n2.ensures in
-    (omega (arith, c.decreases, c.requires.1), child_asks s.left s.a s.b s.c (notes_of s.n) h c.requires.1 c.requires.2 2 (omega arith) d2 refl refl (none_more (2 * s.c)) (c.cut-3.ensures.0 ∙ ap (halve 2 0) h.quarters.third_is))
-
-pub zeta-xi-n4-requires : goal.zeta-xi-n4-requires
-zeta-xi-n4-requires t c = let s = c.args in let h = c.requires.0 in let deep = (s.left - 1) / 3 in
-    let d1 = gone s.a s.b s.c deep (notes_of s.n) h.control 0 refl (none_more (2 * s.a)) (none_more (2 * s.b)) (none_more (2 * s.c)) (c.cut.ensures.0 ∙ ap (halve 2 0) h.quarters.first_is) c.xi-n1.ensures in
-    let d2 = gone s.a s.b s.c deep (notes_of s.n) h.control 1 d1 refl (none_more (2 * s.b)) (none_more (2 * s.c)) (c.cut-2.ensures.0 ∙ ap (halve 2 0) h.quarters.second_is) c.xi-n2.ensures in
-    let d3 = gone s.a s.b s.c deep (notes_of s.n) h.control 2 d2 refl refl (none_more (2 * s.c)) (c.cut-3.ensures.0 ∙ ap (halve 2 0) h.quarters.third_is) c.xi-n3.ensures in
-    (omega (arith, c.decreases, c.requires.1), child_asks s.left s.a s.b s.c (notes_of s.n) h c.requires.1 c.requires.2 3 (omega arith) d3 (none_more (2 * s.a)) refl (none_more (2 * s.c)) (c.cut-4.ensures.0 ∙ ap (halve 2 0) h.quarters.fourth_is))
-
-pub zeta-xi-n5-requires : goal.zeta-xi-n5-requires
-zeta-xi-n5-requires t c = let s = c.args in let h = c.requires.0 in let deep = (s.left - 1) / 3 in
-    let d1 = gone s.a s.b s.c deep (notes_of s.n) h.control 0 refl (none_more (2 * s.a)) (none_more (2 * s.b)) (none_more (2 * s.c)) (c.cut.ensures.0 ∙ ap (halve 2 0) h.quarters.first_is) c.xi-n1.ensures in
-    let d2 = gone s.a s.b s.c deep (notes_of s.n) h.control 1 d1 refl (none_more (2 * s.b)) (none_more (2 * s.c)) (c.cut-2.ensures.0 ∙ ap (halve 2 0) h.quarters.second_is) c.xi-n2.ensures in
-    let d3 = gone s.a s.b s.c deep (notes_of s.n) h.control 2 d2 refl refl (none_more (2 * s.c)) (c.cut-3.ensures.0 ∙ ap (halve 2 0) h.quarters.third_is) c.xi-n3.ensures in
-    let d4 = gone s.a s.b s.c deep (notes_of s.n) h.control 3 d3 (none_more (2 * s.a)) refl (none_more (2 * s.c)) (c.cut-4.ensures.0 ∙ ap (halve 2 0) h.quarters.fourth_is) c.xi-n4.ensures in
-    (omega (arith, c.decreases, c.requires.1), child_asks s.left s.a s.b s.c (notes_of s.n) h c.requires.1 c.requires.2 4 (omega arith) d4 (none_more (2 * s.a)) (none_more (2 * s.b)) refl (c.cut.ensures.1 ∙ ap (halve 2 1) h.quarters.first_is))
-
-pub zeta-xi-n6-requires : goal.zeta-xi-n6-requires
-zeta-xi-n6-requires t c = let s = c.args in let h = c.requires.0 in let deep = (s.left - 1) / 3 in
-    let d1 = gone s.a s.b s.c deep (notes_of s.n) h.control 0 refl (none_more (2 * s.a)) (none_more (2 * s.b)) (none_more (2 * s.c)) (c.cut.ensures.0 ∙ ap (halve 2 0) h.quarters.first_is) c.xi-n1.ensures in
-    let d2 = gone s.a s.b s.c deep (notes_of s.n) h.control 1 d1 refl (none_more (2 * s.b)) (none_more (2 * s.c)) (c.cut-2.ensures.0 ∙ ap (halve 2 0) h.quarters.second_is) c.xi-n2.ensures in
-    let d3 = gone s.a s.b s.c deep (notes_of s.n) h.control 2 d2 refl refl (none_more (2 * s.c)) (c.cut-3.ensures.0 ∙ ap (halve 2 0) h.quarters.third_is) c.xi-n3.ensures in
-    let d4 = gone s.a s.b s.c deep (notes_of s.n) h.control 3 d3 (none_more (2 * s.a)) refl (none_more (2 * s.c)) (c.cut-4.ensures.0 ∙ ap (halve 2 0) h.quarters.fourth_is) c.xi-n4.ensures in
-    let d5 = gone s.a s.b s.c deep (notes_of s.n) h.control 4 d4 (none_more (2 * s.a)) (none_more (2 * s.b)) refl (c.cut.ensures.1 ∙ ap (halve 2 1) h.quarters.first_is) c.xi-n5.ensures in
-    (omega (arith, c.decreases, c.requires.1), child_asks s.left s.a s.b s.c (notes_of s.n) h c.requires.1 c.requires.2 5 (omega arith) d5 refl (none_more (2 * s.b)) refl (c.cut-2.ensures.1 ∙ ap (halve 2 1) h.quarters.second_is))
-
-pub zeta-xi-n7-requires : goal.zeta-xi-n7-requires
-zeta-xi-n7-requires t c = let s = c.args in let h = c.requires.0 in let deep = (s.left - 1) / 3 in
-    let d1 = gone s.a s.b s.c deep (notes_of s.n) h.control 0 refl (none_more (2 * s.a)) (none_more (2 * s.b)) (none_more (2 * s.c)) (c.cut.ensures.0 ∙ ap (halve 2 0) h.quarters.first_is) c.xi-n1.ensures in
-    let d2 = gone s.a s.b s.c deep (notes_of s.n) h.control 1 d1 refl (none_more (2 * s.b)) (none_more (2 * s.c)) (c.cut-2.ensures.0 ∙ ap (halve 2 0) h.quarters.second_is) c.xi-n2.ensures in
-    let d3 = gone s.a s.b s.c deep (notes_of s.n) h.control 2 d2 refl refl (none_more (2 * s.c)) (c.cut-3.ensures.0 ∙ ap (halve 2 0) h.quarters.third_is) c.xi-n3.ensures in
-    let d4 = gone s.a s.b s.c deep (notes_of s.n) h.control 3 d3 (none_more (2 * s.a)) refl (none_more (2 * s.c)) (c.cut-4.ensures.0 ∙ ap (halve 2 0) h.quarters.fourth_is) c.xi-n4.ensures in
-    let d5 = gone s.a s.b s.c deep (notes_of s.n) h.control 4 d4 (none_more (2 * s.a)) (none_more (2 * s.b)) refl (c.cut.ensures.1 ∙ ap (halve 2 1) h.quarters.first_is) c.xi-n5.ensures in
-    let d6 = gone s.a s.b s.c deep (notes_of s.n) h.control 5 d5 refl (none_more (2 * s.b)) refl (c.cut-2.ensures.1 ∙ ap (halve 2 1) h.quarters.second_is) c.xi-n6.ensures in
-    (omega (arith, c.decreases, c.requires.1), child_asks s.left s.a s.b s.c (notes_of s.n) h c.requires.1 c.requires.2 6 (omega arith) d6 refl refl refl (c.cut-3.ensures.1 ∙ ap (halve 2 1) h.quarters.third_is))
-
-pub zeta-xi-requires : goal.zeta-xi-requires
-zeta-xi-requires t c = let s = c.args in let h = c.requires.0 in let deep = (s.left - 1) / 3 in
-    let d1 = gone s.a s.b s.c deep (notes_of s.n) h.control 0 refl (none_more (2 * s.a)) (none_more (2 * s.b)) (none_more (2 * s.c)) (c.cut.ensures.0 ∙ ap (halve 2 0) h.quarters.first_is) c.xi-n1.ensures in
-    let d2 = gone s.a s.b s.c deep (notes_of s.n) h.control 1 d1 refl (none_more (2 * s.b)) (none_more (2 * s.c)) (c.cut-2.ensures.0 ∙ ap (halve 2 0) h.quarters.second_is) c.xi-n2.ensures in
-    let d3 = gone s.a s.b s.c deep (notes_of s.n) h.control 2 d2 refl refl (none_more (2 * s.c)) (c.cut-3.ensures.0 ∙ ap (halve 2 0) h.quarters.third_is) c.xi-n3.ensures in
-    let d4 = gone s.a s.b s.c deep (notes_of s.n) h.control 3 d3 (none_more (2 * s.a)) refl (none_more (2 * s.c)) (c.cut-4.ensures.0 ∙ ap (halve 2 0) h.quarters.fourth_is) c.xi-n4.ensures in
-    let d5 = gone s.a s.b s.c deep (notes_of s.n) h.control 4 d4 (none_more (2 * s.a)) (none_more (2 * s.b)) refl (c.cut.ensures.1 ∙ ap (halve 2 1) h.quarters.first_is) c.xi-n5.ensures in
-    let d6 = gone s.a s.b s.c deep (notes_of s.n) h.control 5 d5 refl (none_more (2 * s.b)) refl (c.cut-2.ensures.1 ∙ ap (halve 2 1) h.quarters.second_is) c.xi-n6.ensures in
-    let d7 = gone s.a s.b s.c deep (notes_of s.n) h.control 6 d6 refl refl refl (c.cut-3.ensures.1 ∙ ap (halve 2 1) h.quarters.third_is) c.xi-n7.ensures in
-    (omega (arith, c.decreases, c.requires.1), child_asks s.left s.a s.b s.c (notes_of s.n) h c.requires.1 c.requires.2 7 (omega arith) d7 (none_more (2 * s.a)) refl refl (c.cut-4.ensures.1 ∙ ap (halve 2 1) h.quarters.fourth_is))
+pub zeta-loop-k-preserved : goal.zeta-loop-k-preserved
+zeta-loop-k-preserved t c = λ g q. let s = c.args in let p = s.p in let k = c.loop-k.k in let at = c.child_point.ensures in let deep = (s.left - 1) / 3 in let e : suc k ≡ k + 1 = omega arith in
+    gone p.a p.b p.c deep (notes_of s.n) g k (c.loop-k.invariant g q) at.0 at.1 at.2 (child_is g s.quarters.now q c.eighths-children.ensures k c.loop-k-test.true) c.xi-notes.ensures
+    ∙ ap (over (cell_at p g) deep (notes_of s.n)) e
 
 pub zeta-returns : goal.zeta-returns
-zeta-returns t c = λ g q. let s = c.args in let deep = (s.left - 1) / 3 in
-    let d1 = gone s.a s.b s.c deep (notes_of s.n) g 0 refl (none_more (2 * s.a)) (none_more (2 * s.b)) (none_more (2 * s.c)) (c.cut.ensures.0 ∙ ap (halve 2 0) q.first_is) c.xi-n1.ensures in
-    let d2 = gone s.a s.b s.c deep (notes_of s.n) g 1 d1 refl (none_more (2 * s.b)) (none_more (2 * s.c)) (c.cut-2.ensures.0 ∙ ap (halve 2 0) q.second_is) c.xi-n2.ensures in
-    let d3 = gone s.a s.b s.c deep (notes_of s.n) g 2 d2 refl refl (none_more (2 * s.c)) (c.cut-3.ensures.0 ∙ ap (halve 2 0) q.third_is) c.xi-n3.ensures in
-    let d4 = gone s.a s.b s.c deep (notes_of s.n) g 3 d3 (none_more (2 * s.a)) refl (none_more (2 * s.c)) (c.cut-4.ensures.0 ∙ ap (halve 2 0) q.fourth_is) c.xi-n4.ensures in
-    let d5 = gone s.a s.b s.c deep (notes_of s.n) g 4 d4 (none_more (2 * s.a)) (none_more (2 * s.b)) refl (c.cut.ensures.1 ∙ ap (halve 2 1) q.first_is) c.xi-n5.ensures in
-    let d6 = gone s.a s.b s.c deep (notes_of s.n) g 5 d5 refl (none_more (2 * s.b)) refl (c.cut-2.ensures.1 ∙ ap (halve 2 1) q.second_is) c.xi-n6.ensures in
-    let d7 = gone s.a s.b s.c deep (notes_of s.n) g 6 d6 refl refl refl (c.cut-3.ensures.1 ∙ ap (halve 2 1) q.third_is) c.xi-n7.ensures in
-    let d8 = gone s.a s.b s.c deep (notes_of s.n) g 7 d7 (none_more (2 * s.a)) refl refl (c.cut-4.ensures.1 ∙ ap (halve 2 1) q.fourth_is) c.xi.ensures in
+zeta-returns t c = λ g q. let s = c.args in let x = cell_at s.p g in let deep = (s.left - 1) / 3 in
+    let all : c.loop-k.k ≡ 8 = omega (arith, c.loop-k-test.false, c.loop-k.auto.k-end) in
     let same : s.left / 3 ≡ deep = same_levels s.left (λ z. absurd (omega (arith, z, c.requires.1))) in
-    d8 ∙ over_all (cell_of s.a s.b s.c g) deep (notes_of s.n) ∙ ap (λ (k : ℕ). through (walk k) (children (cell_of s.a s.b s.c g)) (notes_of s.n)) (sym same)
+    c.loop-k.invariant g q ∙ ap (over x deep (notes_of s.n)) all ∙ over_all x deep (notes_of s.n) ∙ ap (λ (k : ℕ). through (walk k) (children x) (notes_of s.n)) (sym same)

@@ -1,16 +1,22 @@
--- `audit_notes::first_look` meets its contract: by the lowest number. Assumes nothing.
+-- `first_look` meets its contract: by the lowest number. Assumes nothing.
 use mathlib.Core.Path.{refl, sym, ap, ◌∙◌}
 use native.Mathlib.Omega.{arith}
 use Rattle.verdict_theory.specs.Search.{nothing, coefficient}
-use Rattle.wide_array.specs.Values.{values, values_length}
-use Rattle.audit_notes.specs.Notes.{open_clear, open_corner, open_other}
+use Rattle.search_theory.specs.Meaning.{lowest}
+use Rattle.audit_notes.specs.Notes.{clear_number, low_number, low_some, lowest_small, open_clear, open_corner, open_other}
 use Rattle.audit_notes.proofs.first_look.Goals as goal
 
-pub returns-then-k-eq0 : goal.returns-then-k-eq0
-returns-then-k-eq0 c = let s = c in open_clear s.args.a s.args.b s.args.c (values s.args.g.now) s.args.opened nothing refl (values_length s.args.g.now) (sym c.lowest_number-k.ensures.0 ∙ c.if-k-eq0.true)
+pub returns-in_default : goal.returns-in_default
+returns-in_default c = let p = c.args.p in let g = c.args.g.now in open_clear p.a p.b p.c g c.args.opened nothing refl c.told-g (clear_number (lowest g) (sym c.in_default.is ∙ c.lowest_number.ensures))
 
-pub returns-then-k-le8 : goal.returns-then-k-le8
-returns-then-k-le8 c = let s = c in open_corner s.args.a s.args.b s.args.c (values s.args.g.now) s.args.opened nothing refl _ c.if-k-eq0.false c.lowest_number-k.ensures.0 c.if-k-le8.true c.found_at-f.ensures
+pub found_at-f-requires : goal.found_at-f-requires
+found_at-f-requires c = let g = c.args.g.now in let e = sym c.in-Some.is ∙ c.lowest_number.ensures in
+    (c.requires.0, low_some (lowest g) e, omega (arith, low_number (lowest g) e, lowest_small g))
 
-pub returns : goal.returns
-returns c = let s = c in open_other s.args.a s.args.b s.args.c (values s.args.g.now) s.args.opened nothing refl _ c.if-k-eq0.false c.lowest_number-k.ensures.0 (omega (arith, c.if-k-le8.false)) (ap coefficient c.found_at-f.ensures)
+pub returns-then-number-le8 : goal.returns-then-number-le8
+returns-then-number-le8 c = let p = c.args.p in let g = c.args.g.now in let e = sym c.in-Some.is ∙ c.lowest_number.ensures in
+    open_corner p.a p.b p.c g c.args.opened nothing refl c.in-Some.number (λ z. absurd (omega (arith, z, low_some (lowest g) e))) (low_number (lowest g) e) c.if-number-le8.true c.found_at-f.ensures
+
+pub returns-else-number-le8 : goal.returns-else-number-le8
+returns-else-number-le8 c = let p = c.args.p in let g = c.args.g.now in let e = sym c.in-Some.is ∙ c.lowest_number.ensures in
+    open_other p.a p.b p.c g c.args.opened nothing refl c.in-Some.number (λ z. absurd (omega (arith, z, low_some (lowest g) e))) (low_number (lowest g) e) (omega (arith, c.if-number-le8.false)) (ap coefficient c.found_at-f.ensures)

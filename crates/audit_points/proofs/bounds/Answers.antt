@@ -1,25 +1,16 @@
 -- `audit_points::bounds` meets its contract: no coefficient passes the greatest number. Assumes nothing.
-use mathlib.Core.Path.{◌≡◌, ap, ◌∙◌}
-use native.Mathlib.Omega.{arith}
+use mathlib.Core.Path.{ap, ◌∙◌}
 use lib.IntN.{pos}
-use Rattle.definitions.specs.TwoWords.{value}
-use Rattle.wrapping_theory.specs.Words.{value_above}
 use Rattle.audit_theory.specs.Walk.{surveyed}
-use Rattle.wide_array.specs.Word.{largest}
+use Rattle.audit_cut.specs.Word.{largest}
 use Rattle.audit_notes.specs.Meaning.{extremes_in}
 use Rattle.audit_points.specs.Points.{points_small, walk_room, survey_few, survey_walk}
 use Rattle.audit_points.proofs.bounds.Goals as goal
 
-greatest : value 18446744073709551615 9223372036854775807 ≡ pos largest
-greatest = value_above 18446744073709551615 9223372036854775807 (omega arith)
-
 pub xi-survey-requires : goal.xi-survey-requires
-xi-survey-requires c = let d = c.before in let s = d in
-    let small = points_small s.args.p.now _ s.args.depth s.requires.0 s.requires.1 d.coefficients.ensures.fact_1 in
-    walk_room _ s.args.depth small s.requires.1 (surveyed (record { low = pos 0; high = pos 0 })) (survey_few s.args.depth s.requires.1)
+xi-survey-requires c = let xs = c.args.p.now in let g = c.coefficients-g.result in let D = c.args.depth in
+    walk_room g D (points_small xs g D c.requires.0 c.requires.1 c.coefficients-g.ensures) c.requires.1 (surveyed (record { low = pos largest; high = pos largest })) (survey_few D c.requires.1)
 
 pub returns : goal.returns
-returns c = let d = c.before.before.before in let s = d in
-    let e = d.coefficients.ensures.fact_1 in
-    let small = points_small s.args.p.now _ s.args.depth s.requires.0 s.requires.1 e in
-    c.surveyed.ensures ∙ ap extremes_in (survey_walk s.args.p.now _ s.args.depth e small _ greatest c.xi-survey.ensures)
+returns c = let xs = c.args.p.now in let g = c.coefficients-g.result in let D = c.args.depth in let e = c.coefficients-g.ensures in
+    c.surveyed.ensures ∙ ap extremes_in (survey_walk xs g D e (points_small xs g D c.requires.0 c.requires.1 e) c.xi-survey.ensures)

@@ -1,6 +1,6 @@
--- `audit_points::record` meets its contract: two words hold the coefficients at every level. Assumes nothing.
+-- `audit_points::record` meets its contract: 128 bits hold the coefficients at every level. Assumes nothing.
 use Rattle.audit_points.specs.Points.{points_small}
 use Rattle.audit_points.proofs.record.Goals as goal
 
 pub search-requires : goal.search-requires
-search-requires c = let d = c.before in let s = d in (points_small s.args.p.now _ s.args.depth s.requires.0 s.requires.1 d.coefficients.ensures.fact_1, s.requires.1)
+search-requires c = (points_small c.args.p.now _ c.args.depth c.requires.0 c.requires.1 c.coefficients.ensures, c.requires.1)

@@ -1,55 +1,38 @@
--- `audit_points::search` meets its contract: between walks the levels before are all blocked; the loop ends at a walk that settles, or at the depth. Assumes nothing.
-use mathlib.Core.Path.{◌≡◌, sym, ap, ap₂, ◌∙◌}
-use mathlib.Core.List.{List}
-use mathlib.Core.Bool.{Bool, true, false, ◌&&◌, and-true, and-eq-true_iff}
-use Prim.Native.Nat.{ℕ, ◌+◌, ◌≤◌, ◌<◌, zero-le}
+-- `audit_points::search` meets its contract: the walk that settles, or the one at the depth, gives the record. Assumes nothing.
+use mathlib.Core.Path.{◌≡◌, refl, sym, subst, ◌∙◌}
+use Prim.Native.Nat.{ℕ, ◌≤◌}
 use native.Mathlib.Omega.{arith}
-use lib.Dec.{ltb}
-use lib.IntN.{ℤ}
-use borrow.Author.Tests.{ltb-true, ltb-false}
-use Rattle.definitions.specs.Record.{verdict_words, record_of}
-use Rattle.verdict_theory.specs.Opened.{most}
-use Rattle.verdict_theory.specs.Search.{visit}
+use Rattle.std.proofs.Common.{true≢false}
 use Rattle.search_theory.specs.Children.{small_less}
-use Rattle.search_theory.specs.Visit.{is_blocked}
-use Rattle.search_theory.specs.Levels.{Made, whole_of, fresh, settled, made_first, made_next}
-use Rattle.audit_theory.specs.Walk.{Notes, sought, opened}
-use Rattle.wide_array.specs.Values.{values}
-use Rattle.wide_array.specs.Word.{largest}
-use Rattle.audit_notes.specs.Meaning.{notes_of, blocked_in, record_in}
-use Rattle.audit_points.specs.Points.{walk_room, opened_few, search_walk}
+use Rattle.search_theory.specs.Levels.{fresh}
+use Rattle.audit_theory.specs.Walk.{sought}
+use Rattle.audit_cut.specs.Word.{largest}
+use Rattle.audit_notes.specs.Meaning.{notes_of}
+use Rattle.audit_points.specs.Points.{Ready, first, ready_few, walk_room, walked, next, settles, is_blocked_in}
 use Rattle.audit_points.proofs.search.Goals as goal
 
-pub xi-n-requires : goal.xi-n-requires
-xi-n-requires c = let g = values c.args.g.now in walk_room g 0 (small_less largest g 0 c.args.depth zero-le c.requires.0) zero-le (sought (fresh 0)) (omega arith)
-
 pub loop-m-init : goal.loop-m-init
-loop-m-init c = let g = values c.args.g.now in (zero-le, made_first sought g (notes_of c.xi-n.result) (search_walk g 0 0 c.xi-n.ensures))
+loop-m-init c = first refl refl
 
--- what the loop's test says
-module _ (m depth : ℕ) {b : Bool} {g : List ℤ} {n : Notes} (made : Made sought g m n) (e : b ≡ blocked_in n) where
-  going : (ltb m depth && b) ≡ true → (m < depth) × (is_blocked made.pass.found ≡ true)
-  going t = let tests = (and-eq-true_iff (ltb m depth) b).0 t in (ltb-true _ _ tests.0, sym (e ∙ ap blocked_in made.is) ∙ tests.1)
-
-  last : m ≤ depth → (ltb m depth && b) ≡ false → is_blocked made.pass.found ≡ true → m ≡ depth
-  last below f h = let test = ltb m depth in
-      let no : test ≡ false = sym (and-true test) ∙ ap (λ (x : Bool). test && x) (sym (e ∙ ap blocked_in made.is ∙ h)) ∙ f in
-      let over : depth ≤ m = ltb-false _ _ no in
-      omega arith
-
-pub xi-n-requires-in-loop-m : goal.xi-n-requires-in-loop-m
-xi-n-requires-in-loop-m c = let l = c in let s = c in let g = values s.args.g.now in let m = l.loop-m.m in let go = going m s.args.depth l.loop-m.invariant.1 c.blocked.ensures c.loop-m-test.true in
-    let small = small_less largest g (m + 1) s.args.depth (omega (arith, go.0)) s.requires.0 in
-    let opened_is = c.count.ensures ∙ ap opened l.loop-m.invariant.1.is in
-    let few : c.count.result ≤ most m = omega (arith, opened_is, l.loop-m.invariant.1.few) in
-    walk_room g (m + 1) small (omega (arith, go.0, s.requires.1)) (sought (fresh c.count.result)) (opened_few m c.count.result (omega (arith, go.0, s.requires.1)) few)
+pub xi-n-requires : goal.xi-n-requires
+xi-n-requires c = let g = c.args.g.now in let m = c.loop-m.m in let l : m ≤ c.args.depth = omega (arith, c.loop-m-test.true) in let d : m ≤ 8 = omega (arith, l, c.requires.1) in
+    walk_room g m (small_less largest g m c.args.depth l c.requires.0) d (sought (fresh c.loop-m.opened)) (ready_few g m c.loop-m.opened c.loop-m.invariant d)
 
 pub loop-m-preserved : goal.loop-m-preserved
-loop-m-preserved c = let l = c in let s = c in let g = values s.args.g.now in let m = l.loop-m.m in let go = going m s.args.depth l.loop-m.invariant.1 c.blocked.ensures c.loop-m-test.true in
-    (omega (arith, go.0), made_next sought g m (notes_of l.loop-m.n) (notes_of c.xi-n-in-loop-m.result) l.loop-m.invariant.1 go.1 (search_walk g (m + 1) c.count.result c.xi-n-in-loop-m.ensures ∙ ap (λ (k : ℕ). sought (visit (m + 1) (whole_of g) (fresh k))) (c.count.ensures ∙ ap opened l.loop-m.invariant.1.is)))
+loop-m-preserved c = let g = c.args.g.now in let m = c.loop-m.m in let n = notes_of c.xi-n.result in let made = walked g m c.loop-m.opened c.loop-m.invariant c.xi-n.ensures in
+    next g m c.loop-m.opened n made (is_blocked_in g m n made c.blocked.ensures ∙ c.if-not-blocked.false) c.count-opened.ensures
+
+pub returns-then-not-blocked : goal.returns-then-not-blocked
+returns-then-not-blocked c = λ xs e. let g = c.args.g.now in let m = c.loop-m.m in let n = notes_of c.xi-n.result in let made = walked g m c.loop-m.opened c.loop-m.invariant c.xi-n.ensures in
+    c.record.ensures ∙ settles g xs m c.args.depth n made e (omega (arith, c.loop-m-test.true)) (λ b. absurd (true≢false (sym b ∙ is_blocked_in g m n made c.blocked.ensures ∙ c.if-not-blocked.true)))
+
+-- after the loop the level is the depth
+at_depth : (c : goal.After-loop-m) → Ready c.args.g.now c.args.depth c.loop-m.opened
+at_depth c = let e : c.loop-m.m ≡ c.args.depth = omega (arith, c.loop-m-test.false, c.loop-m.auto.m-end) in subst (λ (m : ℕ). Ready c.args.g.now m c.loop-m.opened) e c.loop-m.invariant
+
+pub xi-n-requires-2 : goal.xi-n-requires-2
+xi-n-requires-2 c = let g = c.args.g.now in let D = c.args.depth in walk_room g D c.requires.0 c.requires.1 (sought (fresh c.loop-m.opened)) (ready_few g D c.loop-m.opened (at_depth c) c.requires.1)
 
 pub returns : goal.returns
-unfolding record_of
-returns c = λ xs e. let l = c in let s = c in let made = l.loop-m.invariant.1 in
-    let final = settled xs l.loop-m.m s.args.depth made.pass l.loop-m.invariant.0 (made.at xs e) (last l.loop-m.m s.args.depth made c.blocked.ensures l.loop-m.invariant.0 c.loop-m-test.false) in
-    c.«record».ensures ∙ ap (record_in l.loop-m.m) made.is ∙ ap₂ verdict_words final.0 final.1
+returns c = λ xs e. let g = c.args.g.now in let D = c.args.depth in let n = notes_of c.xi-n-2.result in
+    c.record-2.ensures ∙ settles g xs D D n (walked g D c.loop-m.opened (at_depth c.before.before) c.xi-n-2.ensures) e (omega arith) (λ b. refl)

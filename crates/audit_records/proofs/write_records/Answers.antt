@@ -1,24 +1,25 @@
 -- `audit_records::write_records` meets its contract: before each turn the first e records are entered. Assumes nothing.
-use mathlib.Core.Path.{ap, ◌∙◌}
-use mathlib.Core.List.{List}
-use Prim.Native.Nat.{ℕ}
-use native.Mathlib.Omega.{arith}
+use Rattle.std.proofs.Common.{◌/◌, ◌<◌, ap, ◌∙◌, List, [], ℕ, get_or, length, arith}
 use Rattle.definitions.specs.Limits.{base}
 use Rattle.definitions.specs.Mesh.{element_record}
-use Rattle.mesh_report.specs.Entries.{part_of, entered_room, entered_next, entered_all}
+use Rattle.mesh_report.specs.Entries.{chunk_of, entered_room, entered_next, entered_all}
 use Rattle.audit_records.proofs.write_records.Goals as goal
 
 pub enter-counts-requires : goal.enter-counts-requires
-enter-counts-requires c = let s = c in
-    let words = s.element-words.ensures ∙ ap (λ (ix : List ℕ). element_record base s.args.coordinates.now ix s.args.depth) (part_of s.args.indices.now s.loop-e.e) in
-    entered_room base s.args.coordinates.now s.args.indices.now s.args.depth s.args.report.now s.requires.indices_len.2 s.loop-e.invariant s.loop-e-test.true words (omega arith) s.requires.indices_len.1
+enter-counts-requires c =
+    let more : c.loop-e.e < length c.args.indices.now / 8 = omega (arith, c.as_chunks.ensures.front_len) in
+    let lent = ap (λ (l : List (List ℕ)). get_or l c.loop-e.e []) c.as_chunks.ensures.front ∙ chunk_of _ _ _ more in
+    let words = c.element-words.ensures ∙ ap (λ (ix : List ℕ). element_record base c.args.coordinates.now ix c.args.depth) lent in
+    entered_room base c.args.coordinates.now c.args.indices.now c.args.depth c.args.report.now c.requires.indices_len.2 c.loop-e.invariant more words (omega arith) c.requires.indices_len.1
 
 pub loop-e-preserved : goal.loop-e-preserved
-loop-e-preserved c = let s = c in
-    let words = s.element-words.ensures ∙ ap (λ (ix : List ℕ). element_record base s.args.coordinates.now ix s.args.depth) (part_of s.args.indices.now s.loop-e.e) in
-    entered_next base s.args.coordinates.now s.args.indices.now s.args.depth s.args.report.now s.requires.indices_len.2 s.loop-e.invariant s.loop-e-test.true words c.enter-counts.ensures.report_after c.enter-counts.ensures.result_value
+loop-e-preserved c =
+    let more : c.loop-e.e < length c.args.indices.now / 8 = omega (arith, c.as_chunks.ensures.front_len) in
+    let lent = ap (λ (l : List (List ℕ)). get_or l c.loop-e.e []) c.as_chunks.ensures.front ∙ chunk_of _ _ _ more in
+    let words = c.element-words.ensures ∙ ap (λ (ix : List ℕ). element_record base c.args.coordinates.now ix c.args.depth) lent in
+    entered_next base c.args.coordinates.now c.args.indices.now c.args.depth c.args.report.now c.requires.indices_len.2 c.loop-e.invariant more words c.enter-counts.ensures.report_after c.enter-counts.ensures.result_value
 
 pub returns : goal.returns
-returns c = let s = c in
-    let all = entered_all base s.args.coordinates.now s.args.indices.now s.args.depth s.args.report.now s.requires.indices_len.2 s.loop-e.invariant (omega arith) in
+returns c =
+    let all = entered_all base c.args.coordinates.now c.args.indices.now c.args.depth c.args.report.now c.requires.indices_len.2 c.loop-e.invariant (omega arith) in
     record { result_value = all.0; report_after = all.1 }

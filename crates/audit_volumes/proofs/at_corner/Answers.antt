@@ -1,64 +1,36 @@
--- `at_corner` meets its contract: three edges, and their determinant put in its place. Assumes nothing.
+-- `at_corner` meets its contract: the determinant of three edges. Assumes nothing.
 use mathlib.Core.Path.{◌∙◌}
-use Prim.Native.Nat.{ℕ, ◌<◌}
+use Prim.Native.Nat.{ℕ}
+use native.Mathlib.Nat.{le_trans}
 use native.Mathlib.Omega.{arith}
 use lib.Dec.{lit≤}
-use lib.IntN.{ℤ}
-use mir.Syntax.{w64}
-use mir.Val.{of_z}
+use lib.ListN.{get_or}
+use mir.Facts.{to_z-of_z}
+use mir.Syntax.{w128}
 use Rattle.foundation.specs.Polynomial.{integers}
-use Rattle.definitions.specs.Jacobian.{nodes_of}
+use Rattle.foundation.specs.Words.{args}
+use Rattle.definitions.specs.Jacobian.{nodes_of, det}
 use Rattle.definitions.specs.Coefficients.{edge}
-use Rattle.element_vectors.specs.Vectors.{HeldVector, det_read, edge_held}
+use Rattle.element_vectors.specs.Sizes.{edge_small}
 use Rattle.audit_volumes.specs.Limits.{edge_limit, middle_limit}
-use Rattle.audit_volumes.specs.Begun.{next, corner_volume_law}
+use Rattle.audit_volumes.specs.Vectors.{within_all}
 use Rattle.audit_volumes.proofs.at_corner.Goals as goal
-use Rattle.audit_volumes.proofs.at_corner.Lts as lts
-use Rattle.audit_volumes.proofs.at_corner.Tie as tie
-use Rattle.audit_volumes.proofs.at_corner.Reads as reads
 
--- what is known at a place of the code
-abbrev After-edge-3 : Type 0
-After-edge-3 = lts.After-edge3 tie.the-claims reads.Pre reads.Post tie.handed_clauses
+pub edge-requires : goal.edge-requires
+edge-requires c = (c.requires.nodes 0 (omega arith), c.requires.nodes 1 (omega arith))
 
-abbrev After-edge-6 : Type 0
-After-edge-6 = lts.After-edge6 tie.the-claims reads.Pre reads.Post tie.handed_clauses
+pub edge-requires-2 : goal.edge-requires-2
+edge-requires-2 c = (c.requires.nodes 0 (omega arith), c.requires.nodes 2 (omega arith))
 
-abbrev After-edge-9 : Type 0
-After-edge-9 = lts.After-edge9 tie.the-claims reads.Pre reads.Post tie.handed_clauses
+pub edge-requires-3 : goal.edge-requires-3
+edge-requires-3 c = (c.requires.nodes 0 (omega arith), c.requires.nodes 3 (omega arith))
 
-abbrev Start : Type 0
-Start = lts.Start tie.the-claims reads.Pre reads.Post tie.handed_clauses
-
-abbrev toward : Start → ℕ → ℕ → ℤ
-toward s b = edge integers (nodes_of s.args.p.now) s.args.a b
-
--- the entry as seen after the three calls of each vector, and the vector held
-module _ (c : After-edge-3) where
-  abbrev entry-1 : Start
-  entry-1 = c.before.before.before
-
-  to_b : HeldVector edge_limit (of_z w64 c.edge.result) (of_z w64 c.edge-2.result) (of_z w64 c.edge-3.result) (toward entry-1 entry-1.args.b)
-  to_b = edge_held entry-1.requires.begun.range edge_limit tt (lit≤ tt) entry-1.args.a entry-1.args.b c.edge.ensures c.edge-2.ensures c.edge-3.ensures
-
-module _ (c : After-edge-6) where
-  abbrev entry-2 : Start
-  entry-2 = entry-1 c.before.before.before
-
-  to_c : HeldVector middle_limit (of_z w64 c.edge-4.result) (of_z w64 c.edge-5.result) (of_z w64 c.edge-6.result) (toward entry-2 entry-2.args.c)
-  to_c = edge_held entry-2.requires.begun.range middle_limit tt (lit≤ tt) entry-2.args.a entry-2.args.c c.edge-4.ensures c.edge-5.ensures c.edge-6.ensures
-
-module _ (c : After-edge-9) where
-  abbrev entry-3 : Start
-  entry-3 = entry-2 c.before.before.before
-
-  to_d : HeldVector middle_limit (of_z w64 c.edge-7.result) (of_z w64 c.edge-8.result) (of_z w64 c.edge-9.result) (toward entry-3 entry-3.args.d)
-  to_d = edge_held entry-3.requires.begun.range middle_limit tt (lit≤ tt) entry-3.args.a entry-3.args.d c.edge-7.ensures c.edge-8.ensures c.edge-9.ensures
-
-place_inside : (c : After-edge-9) → (entry-3 c).args.k < 20
-place_inside c = omega (arith, (entry-3 c).requires.node_2.0)
+pub determinant-requires : goal.determinant-requires
+determinant-requires c = let r = c.requires.range in let toward = edge integers (nodes_of c.args.p.now) in let n : ℕ → ℕ = λ i. get_or c.args.t i 0 in record {
+  first = within_all edge_limit (toward (n 0) (n 1)) c.edge.ensures (edge_small r (n 0) (n 1));
+  second = within_all middle_limit (toward (n 0) (n 2)) c.edge-2.ensures (λ e. le_trans (edge_small r (n 0) (n 2) e) (lit≤ tt));
+  third = within_all middle_limit (toward (n 0) (n 3)) c.edge-3.ensures (λ e. le_trans (edge_small r (n 0) (n 3) e) (lit≤ tt));
+}
 
 pub returns : goal.returns
-returns c = let d = c.before.before in let w = d.before in let v = w.before.before.before in let s = entry-3 w in let at = s.requires.node_2 in
-    next d.determinant-volume.result.low d.determinant-volume.result.high s.requires.begun (place_inside w) c.put.ensures
-    (det_read (λ x. x) (to_b v.before.before.before) (to_c v) (to_d w) d.determinant-volume.ensures ∙ corner_volume_law s.args.p.now at.0 at.1)
+returns c = to_z-of_z {w = w128} (record { sfits = c.determinant.type_inv }) ∙ c.determinant.ensures ∙ (λ i. det integers (args (c.edge.ensures i)) (args (c.edge-2.ensures i)) (args (c.edge-3.ensures i)))

@@ -1,66 +1,34 @@
--- `at_edge` meets its contract: an edge and two sums of edges, and their determinant put in its place. Assumes nothing.
+-- `at_edge` meets its contract: the determinant of an edge and two sums of edges. Assumes nothing.
 use mathlib.Core.Path.{◌∙◌}
-use Prim.Native.Nat.{ℕ, ◌<◌}
-use lib.Dec.{lit≤}
-use lib.IntN.{ℤ}
-use mir.Syntax.{w64}
-use mir.Val.{of_z}
+use Prim.Native.Nat.{ℕ}
+use native.Mathlib.Omega.{arith}
+use lib.ListN.{get_or}
+use mir.Facts.{to_z-of_z}
+use mir.Syntax.{w128}
 use Rattle.foundation.specs.Polynomial.{integers}
-use Rattle.definitions.specs.Jacobian.{nodes_of}
+use Rattle.foundation.specs.Words.{args}
+use Rattle.definitions.specs.Jacobian.{nodes_of, det}
 use Rattle.definitions.specs.Coefficients.{edge, middle}
-use Rattle.element_vectors.specs.Vectors.{HeldVector, vector_within, det_read, edge_held, middle_held}
+use Rattle.element_vectors.specs.Sizes.{edge_small, middle_small}
 use Rattle.audit_volumes.specs.Limits.{edge_limit, middle_limit}
-use Rattle.audit_volumes.specs.Begun.{next, edge_volume_law}
+use Rattle.audit_volumes.specs.Vectors.{within_all}
 use Rattle.audit_volumes.proofs.at_edge.Goals as goal
-use Rattle.audit_volumes.proofs.at_edge.Lts as lts
-use Rattle.audit_volumes.proofs.at_edge.Tie as tie
-use Rattle.audit_volumes.proofs.at_edge.Reads as reads
 
--- what is known at a place of the code
-abbrev After-edge-3 : Type 0
-After-edge-3 = lts.After-edge3 tie.the-claims reads.Pre reads.Post tie.handed_clauses
+pub edge-requires : goal.edge-requires
+edge-requires c = (c.requires.nodes 0 (omega arith), c.requires.nodes 1 (omega arith))
 
-abbrev After-middle-3 : Type 0
-After-middle-3 = lts.After-middle3 tie.the-claims reads.Pre reads.Post tie.handed_clauses
+pub middle-requires : goal.middle-requires
+middle-requires c = (c.requires.nodes 0 (omega arith), c.requires.nodes 2 (omega arith), c.requires.nodes 3 (omega arith))
 
-abbrev Start : Type 0
-Start = lts.Start tie.the-claims reads.Pre reads.Post tie.handed_clauses
+pub middle-requires-2 : goal.middle-requires-2
+middle-requires-2 c = (c.requires.nodes 0 (omega arith), c.requires.nodes 4 (omega arith), c.requires.nodes 5 (omega arith))
 
-abbrev toward : Start → ℕ → ℕ → ℤ
-toward s b = edge integers (nodes_of s.args.p.now) s.args.a b
-
-abbrev between : Start → ℕ → ℕ → ℕ → ℤ
-between s b c = middle integers (nodes_of s.args.p.now) s.args.a b c
-
--- the entry as seen after the three calls of each vector, and the vector held
-module _ (c : After-edge-3) where
-  abbrev entry-1 : Start
-  entry-1 = c.before.before.before
-
-  to_b : HeldVector edge_limit (of_z w64 c.edge.result) (of_z w64 c.edge-2.result) (of_z w64 c.edge-3.result) (toward entry-1 entry-1.args.b)
-  to_b = edge_held entry-1.requires.begun.range edge_limit tt (lit≤ tt) entry-1.args.a entry-1.args.b c.edge.ensures c.edge-2.ensures c.edge-3.ensures
-
-module _ (c : After-middle-3) where
-  abbrev entry-2 : Start
-  entry-2 = entry-1 c.before.before.before
-
-  to_cd : HeldVector middle_limit (of_z w64 c.middle.result) (of_z w64 c.middle-2.result) (of_z w64 c.middle-3.result) (between entry-2 entry-2.args.c entry-2.args.d)
-  to_cd = middle_held entry-2.requires.begun.range middle_limit tt (lit≤ tt) entry-2.args.a entry-2.args.c entry-2.args.d c.middle.ensures c.middle-2.ensures c.middle-3.ensures
-
-module _ (c : goal.After-middle-6) where
-  abbrev entry-3 : Start
-  entry-3 = entry-2 c.before.before.before
-
-  to_ef : HeldVector middle_limit (of_z w64 c.middle-4.result) (of_z w64 c.middle-5.result) (of_z w64 c.middle-6.result) (between entry-3 entry-3.args.e entry-3.args.f)
-  to_ef = middle_held entry-3.requires.begun.range middle_limit tt (lit≤ tt) entry-3.args.a entry-3.args.e entry-3.args.f c.middle-4.ensures c.middle-5.ensures c.middle-6.ensures
-
-place_inside : (c : goal.After-middle-6) → (entry-3 c).args.k < 20
-place_inside c = (entry-3 c).requires.node_2.1
-
-pub determinant-volume-requires : goal.determinant-volume-requires
-determinant-volume-requires c = let v = c.before.before.before in record { fact_1 = vector_within (to_b v.before.before.before); fact_2 = vector_within (to_cd v); fact_3 = vector_within (to_ef c) }
+pub determinant-requires : goal.determinant-requires
+determinant-requires c = let r = c.requires.range in let x = nodes_of c.args.p.now in let n : ℕ → ℕ = λ i. get_or c.args.t i 0 in record {
+  first = within_all edge_limit (edge integers x (n 0) (n 1)) c.edge.ensures (edge_small r (n 0) (n 1));
+  second = within_all middle_limit (middle integers x (n 0) (n 2) (n 3)) c.middle.ensures (middle_small r (n 0) (n 2) (n 3));
+  third = within_all middle_limit (middle integers x (n 0) (n 4) (n 5)) c.middle-2.ensures (middle_small r (n 0) (n 4) (n 5));
+}
 
 pub returns : goal.returns
-returns c = let d = c.before.before in let w = d.before in let v = w.before.before.before in let s = entry-3 w in let at = s.requires.node_2 in
-    next d.determinant-volume.result.low d.determinant-volume.result.high s.requires.begun (place_inside w) c.put.ensures
-    (det_read (λ x. x) (to_b v.before.before.before) (to_cd v) (to_ef w) d.determinant-volume.ensures ∙ edge_volume_law s.args.p.now at.0 at.1 at.2)
+returns c = to_z-of_z {w = w128} (record { sfits = c.determinant.type_inv }) ∙ c.determinant.ensures ∙ (λ i. det integers (args (c.edge.ensures i)) (args (c.middle.ensures i)) (args (c.middle-2.ensures i)))

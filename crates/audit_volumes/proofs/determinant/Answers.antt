@@ -1,54 +1,101 @@
--- `audit_volumes::determinant` meets its contract: it fits two words, so nothing is lost on the way. Assumes nothing.
-use mathlib.Core.Path.{◌∙◌}
+-- Each product, difference and sum of the determinant, by the bounds on its nine numbers.
+use mathlib.Core.Path.{◌≡◌, sym, ◌∙◌}
 use mathlib.Core.List.{List, [], ◌∷◌, ◌++◌}
-use Prim.Native.Nat.{ℕ}
-use native.Mathlib.Omega.{arith}
-use lib.IntN.{ℤ, ◌+ℤ◌, ◌-ℤ◌, ◌*ℤ◌}
+use Prim.Native.Nat.{ℕ, ◌≤◌}
+use lib.Dec.{T}
+use lib.IntN.{ℤ, nat_abs}
 use mir.Syntax.{w128}
 use mir.Val.{SFits}
-use mir.Facts.{to_z-of_z}
+use Rattle.std.proofs.Common.{subst}
 use Rattle.foundation.specs.Polynomial.{integers}
-use Rattle.foundation.specs.Words.{Op, arg, minus, times, plus, args, within}
+use Rattle.foundation.specs.Words.{Op, arg, minus, times, plus, args, within, split, within_split, Within}
 use Rattle.definitions.specs.Jacobian.{det}
-use Rattle.wrapping_theory.specs.Runs.{size_fits, run_exact}
-use Rattle.wrapping_theory.specs.Words.{value_fits}
-use Rattle.wide_number.specs.Meaning.{modulo}
-use Rattle.element_vectors.specs.Sizes.{det_small}
-use Rattle.audit_volumes.specs.Limits.{edge_limit, middle_limit, volume_limit}
+use Rattle.audit_theory.specs.Exact.{fits, result, result_fits, held_is}
+use Rattle.audit_volumes.specs.Limits.{edge_limit, middle_limit}
 use Rattle.audit_volumes.proofs.determinant.Goals as goal
-use Rattle.audit_volumes.proofs.determinant.Lts as lts
-use Rattle.audit_volumes.proofs.determinant.Tie as tie
-use Rattle.audit_volumes.proofs.determinant.Reads as reads
 
--- what is known at a place of the code
-abbrev Start : Type 0
-Start = lts.Start tie.the-claims reads.Pre reads.Post tie.handed_clauses
+-- a vector by its three numbers
+abbrev three : List ℤ → List ℤ
+three v = args v 0 ∷ args v 1 ∷ args v 2 ∷ []
 
--- a product of a coordinate of v, the first number, with one of w, the second; a coordinate of u with a minor
-abbrev minor : ℕ → ℕ → ℕ → ℕ → Op
-minor i j k l = minus (times (arg i) (arg l)) (times (arg j) (arg k))
+small : (b : ℕ) {v w : List ℤ} → w ≡ v → Within b v → Within b (three w)
+small b {v} {w} e h = let each = within b w (subst (Within b) (sym e) h) in (each 0, (each 1, (each 2, tt)))
+
+module _ (c : goal.After-f-1) where
+  abbrev numbers : ℕ → ℤ
+  numbers = args (three c.widened.result ++ (three c.widened-2.result ++ three c.widened-3.result))
+
+  bounded : (i : ℕ) → nat_abs (numbers i) ≤ split 3 edge_limit middle_limit i
+  bounded = let v = small middle_limit c.widened-2.ensures c.requires.second in
+      within_split edge_limit middle_limit (three c.widened.result) (three c.widened-2.result ++ three c.widened-3.result)
+      (small edge_limit c.widened.ensures c.requires.first) (v.0, (v.1.0, (v.1.1.0, small middle_limit c.widened-3.ensures c.requires.third)))
+
+  -- each operation on the nine fits
+  fit : (o : Op) → T (fits w128 (split 3 edge_limit middle_limit) o) → SFits w128 (result w128 numbers o)
+  fit = result_fits w128 numbers (split 3 edge_limit middle_limit) bounded
+
+-- a product of a coordinate of v, the first number, with one of w, the second
+abbrev vw : ℕ → ℕ → Op
+vw i j = times (arg i) (arg j)
+
+abbrev minor_x : Op
+minor_x = minus (vw 4 8) (vw 5 7)
+
+abbrev minor_y : Op
+minor_y = minus (vw 3 8) (vw 5 6)
+
+abbrev minor_z : Op
+minor_z = minus (vw 3 7) (vw 4 6)
+
+abbrev two : Op
+two = minus (times (arg 0) minor_x) (times (arg 1) minor_y)
 
 abbrev whole : Op
-whole = plus (minus (times (arg 0) (minor 4 5 7 8)) (times (arg 1) (minor 3 5 6 8))) (times (arg 2) (minor 3 4 6 7))
+whole = plus two (times (arg 2) minor_z)
 
-module _ (s : Start) where
-  abbrev first : List ℤ
-  first = s.args.ux ∷ s.args.uy ∷ s.args.uz ∷ []
-
-  abbrev second : List ℤ
-  second = s.args.vx ∷ s.args.vy ∷ s.args.vz ∷ []
-
-  abbrev third : List ℤ
-  third = s.args.wx ∷ s.args.wy ∷ s.args.wz ∷ []
-
-  whole_fits : SFits w128 (det integers (args first) (args second) (args third))
-  whole_fits = size_fits w128 volume_limit (det integers (args first) (args second) (args third))
-      (det_small edge_limit middle_limit (args first) (args second) (args third) (within edge_limit first s.requires.fact_1) (within middle_limit second s.requires.fact_2) (within middle_limit third s.requires.fact_3)) tt
-
+-- what is answered
 pub returns : goal.returns
-returns c = let s = c.before.before.before.before.before.before.before.before.before.before.before.before.before.before.before.before.before in
-    let x = c.mul-x.ensures ∙ (λ i. modulo ((c.from_i64-p.ensures ∙ to_z-of_z s.ranges.ux) i *ℤ (c.minor.ensures ∙ λ i. modulo (modulo ((c.from_i64-b.ensures ∙ to_z-of_z s.ranges.vy) i *ℤ (c.from_i64-f.ensures ∙ to_z-of_z s.ranges.wz) i) -ℤ modulo ((c.from_i64-c.ensures ∙ to_z-of_z s.ranges.vz) i *ℤ (c.from_i64-e.ensures ∙ to_z-of_z s.ranges.wy) i))) i)) in
-    let y = c.mul-y.ensures ∙ (λ i. modulo ((c.from_i64-q.ensures ∙ to_z-of_z s.ranges.uy) i *ℤ (c.minor-2.ensures ∙ λ i. modulo (modulo ((c.from_i64-a.ensures ∙ to_z-of_z s.ranges.vx) i *ℤ (c.from_i64-f.ensures ∙ to_z-of_z s.ranges.wz) i) -ℤ modulo ((c.from_i64-c.ensures ∙ to_z-of_z s.ranges.vz) i *ℤ (c.from_i64-d.ensures ∙ to_z-of_z s.ranges.wx) i))) i)) in
-    let z = c.mul-z.ensures ∙ (λ i. modulo ((c.from_i64-r.ensures ∙ to_z-of_z s.ranges.uz) i *ℤ (c.minor-3.ensures ∙ λ i. modulo (modulo ((c.from_i64-a.ensures ∙ to_z-of_z s.ranges.vx) i *ℤ (c.from_i64-e.ensures ∙ to_z-of_z s.ranges.wy) i) -ℤ modulo ((c.from_i64-b.ensures ∙ to_z-of_z s.ranges.vy) i *ℤ (c.from_i64-d.ensures ∙ to_z-of_z s.ranges.wx) i))) i)) in
-    run_exact w128 (args (first s ++ second s ++ third s)) whole (value_fits c.add.result.low c.add.result.high (record { low_word_fits = omega (arith, c.add.type_inv.1); high_word_fits = omega (arith, c.add.type_inv.1) }))
-    (c.add.ensures ∙ (λ i. modulo ((c.sub-s.ensures ∙ λ i. modulo (x i -ℤ y i)) i +ℤ z i))) (whole_fits s)
+returns c = held_is w128 (numbers c) (split 3 edge_limit middle_limit) (bounded c) whole tt
+    ∙ (λ i. det integers (args (c.widened.ensures i)) (args (c.widened-2.ensures i)) (args (c.widened-3.ensures i)))
+
+pub overflow_mul-result : goal.overflow_mul-result
+overflow_mul-result c = fit c (vw 4 8) tt
+
+pub overflow_mul-result-2 : goal.overflow_mul-result-2
+overflow_mul-result-2 c = fit c (vw 5 7) tt
+
+pub overflow_sub-result : goal.overflow_sub-result
+overflow_sub-result c = fit c minor_x tt
+
+pub overflow_mul-result-3 : goal.overflow_mul-result-3
+overflow_mul-result-3 c = fit c (times (arg 0) minor_x) tt
+
+pub overflow_mul-result-4 : goal.overflow_mul-result-4
+overflow_mul-result-4 c = fit c (vw 3 8) tt
+
+pub overflow_mul-result-5 : goal.overflow_mul-result-5
+overflow_mul-result-5 c = fit c (vw 5 6) tt
+
+pub overflow_sub-result-2 : goal.overflow_sub-result-2
+overflow_sub-result-2 c = fit c minor_y tt
+
+pub overflow_mul-result-6 : goal.overflow_mul-result-6
+overflow_mul-result-6 c = fit c (times (arg 1) minor_y) tt
+
+pub overflow_sub-result-3 : goal.overflow_sub-result-3
+overflow_sub-result-3 c = fit c two tt
+
+pub overflow_mul-result-7 : goal.overflow_mul-result-7
+overflow_mul-result-7 c = fit c (vw 3 7) tt
+
+pub overflow_mul-result-8 : goal.overflow_mul-result-8
+overflow_mul-result-8 c = fit c (vw 4 6) tt
+
+pub overflow_sub-result-4 : goal.overflow_sub-result-4
+overflow_sub-result-4 c = fit c minor_z tt
+
+pub overflow_mul-result-9 : goal.overflow_mul-result-9
+overflow_mul-result-9 c = fit c (times (arg 2) minor_z) tt
+
+pub overflow_add-result : goal.overflow_add-result
+overflow_add-result c = fit c whole tt

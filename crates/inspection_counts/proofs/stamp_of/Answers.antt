@@ -6,10 +6,10 @@ use Rattle.inspection_counts.specs.Answers.{stamp_is}
 use Rattle.inspection_counts.proofs.stamp_of.Goals as goal
 
 pub returns-then-n : goal.returns-then-n
-returns-then-n c = sym (stamp_is (counts_held c.before.before.before.before.before.args.n) true _ c.if-n.true refl)
+returns-then-n c = sym (stamp_is (counts_held c.args.n) true _ c.if-n.true refl)
 
 pub returns : goal.returns
-returns c = sym (stamp_is (counts_held c.before.before.before.before.before.before.before.before.args.n) false false c.before.before.before.if-n.false c.if-n-2.false)
+returns c = sym (stamp_is (counts_held c.args.n) false false c.if-n.false c.if-n-2.false)
 
 pub returns-then-n-2 : goal.returns-then-n-2
-returns-then-n-2 c = sym (stamp_is (counts_held c.before.before.before.before.before.before.before.before.args.n) false true c.before.before.before.if-n.false c.if-n-2.true)
+returns-then-n-2 c = sym (stamp_is (counts_held c.args.n) false true c.if-n.false c.if-n-2.true)

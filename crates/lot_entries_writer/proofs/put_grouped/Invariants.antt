@@ -1,14 +1,13 @@
--- What holds when a turn of a loop of `put_grouped` begins, and what grows less.
-use Prim.Native.Nat.{◌-◌, ◌≤◌}
-use lib.ListN.{length}
+-- What holds when a turn of the loop of `put_grouped` begins: how far the elements and groups are written.
+use Rattle.std.proofs.Common.{◌≤◌, length}
 use Rattle.lot_format.specs.Format.{grouped_entries}
-use Rattle.lot_format.specs.Runs.{groups_of}
+use Rattle.lot_runs.specs.Meaning.{groups_held}
 use Rattle.bytes_output.specs.Progress.{Progress}
 use Rattle.lot_entries_writer.proofs.Among.{Among, left_among}
 use Rattle.lot_entries_writer.proofs.put_grouped.Given as goal
 
 abbrev pub invariant-loop-k : goal.invariant-loop-k
-invariant-loop-k l = (l.k ≤ length l.lengths) × Among l.elements l.names l.lengths l.offsets l.k l.done l.named × Progress l.at (grouped_entries 0 (groups_of l.names l.lengths l.offsets) l.elements) l.initial.out (left_among l.elements l.names l.lengths l.offsets l.k l.done l.named) l.out l.next
-
-abbrev pub decreases-loop-k : goal.decreases-loop-k
-decreases-loop-k l = length l.lengths - l.k
+invariant-loop-k l =
+    Among l.elements l.groups.names.now l.groups.lengths.now l.groups.offsets.now l.k l.done l.named
+    × Progress l.initial.out (grouped_entries 0 (groups_held l.groups) l.elements)
+    (left_among l.elements l.groups.names.now l.groups.lengths.now l.groups.offsets.now l.k l.done l.named) l.out

@@ -1,12 +1,7 @@
--- What holds when a turn of a loop of `rise` begins, and what grows less.
-use mathlib.Core.Path.{◌≡◌}
-use Prim.Native.Nat.{◌-◌, ◌≤◌}
-use lib.ListN.{length, drop}
+-- What holds when a turn of a loop of `rise` begins: the counts rise if those that are left do, from the last one on.
+use Rattle.std.proofs.Common.{◌≡◌, drop}
 use Rattle.lot_format.specs.Groups.{rising}
 use Rattle.lot_groups.proofs.rise.Given as goal
 
-abbrev pub invariant-loop-k : goal.invariant-loop-k
-invariant-loop-k l = (l.k ≤ length l.offsets) × (rising 0 l.n l.offsets ≡ rising l.low l.n (drop l.k l.offsets))
-
-abbrev pub decreases-loop-k : goal.decreases-loop-k
-decreases-loop-k l = length l.offsets - l.k
+abbrev pub invariant-loop-offset : goal.invariant-loop-offset
+invariant-loop-offset l = rising 0 l.n l.offsets ≡ rising l.low l.n (drop l.offset-index l.offsets)

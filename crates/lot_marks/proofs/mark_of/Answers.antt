@@ -1,28 +1,28 @@
 -- `mark_of` meets its contract: a number that was tested for is known, and any other is none of the five. Assumes nothing.
-use mathlib.Core.Path.{sym}
+use Rattle.std.proofs.Common.{rules, sym}
 use Rattle.lot_format.specs.Format.{mark_of}
 use Rattle.lot_marks.proofs.Laws.{mark_none}
 use Rattle.lot_marks.proofs.mark_of.Goals as goal
 
-pub returns-then-letters-eq-LETTERS_ND : goal.returns-then-letters-eq-LETTERS_ND
+pub returns-in-17486 : goal.returns-in-17486
 unfolding mark_of
-returns-then-letters-eq-LETTERS_ND c = rw c.if-letters-eq-LETTERS_ND.true
+returns-in-17486 c = rw c.in-17486.is
 
-pub returns-then-letters-eq-LETTERS_HX : goal.returns-then-letters-eq-LETTERS_HX
+pub returns-in-22600 : goal.returns-in-22600
 unfolding mark_of
-returns-then-letters-eq-LETTERS_HX c = rw c.if-letters-eq-LETTERS_HX.true
+returns-in-22600 c = rw c.in-22600.is
 
-pub returns-then-letters-eq-LETTERS_LB : goal.returns-then-letters-eq-LETTERS_LB
+pub returns-in-16972 : goal.returns-in-16972
 unfolding mark_of
-returns-then-letters-eq-LETTERS_LB c = rw c.if-letters-eq-LETTERS_LB.true
+returns-in-16972 c = rw c.in-16972.is
 
-pub returns-then-letters-eq-LETTERS_GR : goal.returns-then-letters-eq-LETTERS_GR
+pub returns-in-21063 : goal.returns-in-21063
 unfolding mark_of
-returns-then-letters-eq-LETTERS_GR c = rw c.if-letters-eq-LETTERS_GR.true
+returns-in-21063 c = rw c.in-21063.is
 
-pub returns-then-letters-eq-LETTERS_EN : goal.returns-then-letters-eq-LETTERS_EN
+pub returns-in-20037 : goal.returns-in-20037
 unfolding mark_of
-returns-then-letters-eq-LETTERS_EN c = rw c.if-letters-eq-LETTERS_EN.true
+returns-in-20037 c = rw c.in-20037.is
 
-pub returns : goal.returns
-returns c = sym (mark_none _ c.before.before.before.before.if-letters-eq-LETTERS_ND.false c.before.before.before.if-letters-eq-LETTERS_HX.false c.before.before.if-letters-eq-LETTERS_LB.false c.before.if-letters-eq-LETTERS_GR.false c.if-letters-eq-LETTERS_EN.false)
+pub returns-in_default : goal.returns-in_default
+returns-in_default c = sym (mark_none _ (search rules) (search rules) (search rules) (search rules) (search rules))

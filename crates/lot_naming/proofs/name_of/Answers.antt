@@ -1,22 +1,22 @@
--- `name_of` meets its contract: by whether the number that answers is 0. Assumes nothing.
-use mathlib.Core.Path.{sym, ◌∙◌, ap}
-use mathlib.Core.List.{[], ◌∷◌}
-use Prim.Native.Nat.{ℕ}
+-- `name_of` meets its contract: by whether a test failed. Assumes nothing.
+use Rattle.std.proofs.Common.{sym, ◌∙◌, ap, Err}
+use Rattle.std.proofs.lemmas.Result.{err_from_is_err_and, IfOk-from_err}
 use Rattle.lot_format.specs.Format.{lot_file}
-use Rattle.lot_format.specs.Runs.{groups_of}
-use Rattle.lot_format.specs.Naming.{name_given}
-use Rattle.lot_naming.specs.Place.{place_given}
-use Rattle.lot_naming.specs.Answers.{zero_named}
+use Rattle.lot_format.specs.Naming.{named}
+use Rattle.lot_naming.specs.Meaning.{refusal_told, naming_told}
+use Rattle.lot_naming.specs.Answers.{zero_named, refused_is, not_refused}
 use Rattle.lot_naming.proofs.name_of.Goals as goal
+
+pub returns-in_err-refusal_of : goal.returns-in_err-refusal_of
+returns-in_err-refusal_of c =
+    let refused = err_from_is_err_and c.from_residual.result c.from_residual.ensures.1 in
+    let told = refused_is _ _ (sym (ap refusal_told c.in_err-refusal_of.was) ∙ c.refusal_of.ensures) in
+    record { result_value = ap naming_told (refused.1 ∙ ap Err refused.2) ∙ sym told; ref_ptr_value = IfOk-from_err _ _ c.from_residual.ensures.0 }
 
 pub returns : goal.returns
 returns c =
-    let number = c.refusal_of-refusal.ensures in
-    let label = c.args.label in
-    let names = c.args.names in
-    let answer = zero_named lot_file label.now names.now c.args.lengths.now c.args.offsets.now c.args.elements c.args.element (sym number ∙ c.if-refusal-ne0.false) in
-    record {
-      result_value = c.name_of.ensures.result_value ∙ sym (ap name_given answer);
-      number_after = ap (λ (n : ℕ). n ∷ []) number;
-      ref_ptr_value = c.name_of.ensures.ref_ptr_value ∙ sym (ap (place_given label.ref_ptr names.ref_ptr (groups_of names.now c.args.lengths.now c.args.offsets.now) c.args.element) answer);
-    }
+    let a = c.args in
+    let g = a.groups in
+    let passed = not_refused _ (sym (ap refusal_told c.in_ok-refusal_of.was) ∙ c.refusal_of.ensures) in
+    let answer = zero_named lot_file a.label.now g.names.now g.lengths.now g.offsets.now a.elements a.element passed in
+    record { result_value = ap named c.name_of.ensures.result_value ∙ sym answer; ref_ptr_value = c.name_of.ensures.ref_ptr_value }

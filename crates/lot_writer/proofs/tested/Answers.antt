@@ -5,13 +5,22 @@ use Prim.Native.Nat.{ℕ, suc, ◌/◌, ◌%◌, ◌<◌, ◌≤◌}
 use native.Mathlib.Omega.{arith}
 use borrow.Author.Tests.{eq-eqb, ne_eqb, le-leb, lt-leb}
 use lib.ListN.{length}
+use Rattle.std.proofs.Common.{Err}
+use Rattle.std.proofs.Math.Option.{some}
+use Rattle.std.proofs.lemmas.Result.{err_from_is_err_and}
 use Rattle.lot_format.specs.Format.{lot_file, written}
 use Rattle.lot_format.specs.Runs.{Runs, lot_from}
 use Rattle.lot_format.specs.Groups.{fit_together}
 use Rattle.lot_format.specs.Writing.{writing}
 use Rattle.lot_roundtrip_theory.specs.Lengths.{runs_length, length_runs}
 use Rattle.lot_roundtrip_theory.specs.Tests.{PassedUpTo, together_parts, test, none_tested, one_more, first_unwritten, all_written}
-use Rattle.lot_writer.specs.Meaning.{runs, length_is, refuses, answer_of, capped}
+use Rattle.lot_runs.specs.declared.Lot.{Lot}
+use Rattle.lot_runs.specs.Meaning.{lot_held}
+use Rattle.lot_groups.specs.declared.GroupFault.{GroupFault}
+use Rattle.lot_groups.specs.declared.GroupFault.TheVariants.{Apart, NameTooLong, BadByte}
+use Rattle.lot_groups.specs.Meaning.{first_fault, fault_told}
+use Rattle.lot_groups.specs.Answers.{told_by}
+use Rattle.lot_writer.specs.Meaning.{length_is, refuses, unwritable_of, unwritable_held, written_held, answer_of, capped}
 use Rattle.lot_writer.proofs.tested.Goals as goal
 
 -- ---- the tests of what is handed in; those before the n-th passed
@@ -49,6 +58,19 @@ module _ (x : Runs) (room : ℕ) where
   after6 : length x.nodes % 3 ≡ 0 → length x.elements % 8 ≡ 0 → Passes 2 → Passes 3 → Passes 4 → length x.elements / 8 ≤ lot_file.elements → Passed 6
   after6 a b t s k f = passes 5 (omega arith) (after5 a b t s k) (le-leb _ _ f)
 
+-- a fault of the label or the groups is what the writer refuses
+refused : (lot : Lot) (room : ℕ) → length (lot_held lot).nodes % 3 ≡ 0 → length (lot_held lot).elements % 8 ≡ 0 → (f : GroupFault)
+    → some f ≡ first_fault lot.label.now lot.groups (length lot.elements.now / 8) → refuses (unwritable_held (unwritable_of f)) ≡ answer_of (writing lot_file (lot_held lot) room)
+refused lot room a b Apart h =
+    let t = told_by lot.label.now lot.groups (length lot.elements.now / 8) _ h in
+    fails (lot_held lot) room 2 (omega arith) (after2 (lot_held lot) room a b) t
+refused lot room a b NameTooLong h =
+    let t = told_by lot.label.now lot.groups (length lot.elements.now / 8) _ h in
+    fails (lot_held lot) room 3 (omega arith) (after3 (lot_held lot) room a b t.0) t.1
+refused lot room a b BadByte h =
+    let t = told_by lot.label.now lot.groups (length lot.elements.now / 8) _ h in
+    fails (lot_held lot) room 4 (omega arith) (after4 (lot_held lot) room a b t.0 t.1) t.2
+
 -- the length of the file, and what is had of it from its counts
 abbrev size : Runs → ℕ
 size x = length (written (lot_from x))
@@ -57,78 +79,66 @@ long : (x : Runs) → length x.nodes % 3 ≡ 0 → length x.elements % 8 ≡ 0 �
 long x a b t = let fit = together_parts x.lengths x.offsets (length x.names) (length x.elements / 8) t in length_runs x a b (fit.0, fit.1) fit.2
 
 -- ---- the needs
-pub returns-then-nodes-ne0 : goal.returns-then-nodes-ne0
-returns-then-nodes-ne0 c =
-    let x = runs c.args.label.now c.args.nodes.now c.args.elements.now c.args.names.now c.args.lengths.now c.args.offsets.now in
+pub returns-then-lot-ne0 : goal.returns-then-lot-ne0
+returns-then-lot-ne0 c =
+    let x = lot_held c.args.lot in
     let room = c.args.room in
-    fails x room 0 (omega arith) (after0 x room) (ne_eqb _ _ c.if-nodes-ne0.true)
+    fails x room 0 (omega arith) (after0 x room) (ne_eqb _ _ c.if-lot-ne0.true)
 
-pub returns-then-elements-ne0 : goal.returns-then-elements-ne0
-returns-then-elements-ne0 c =
-    let x = runs c.args.label.now c.args.nodes.now c.args.elements.now c.args.names.now c.args.lengths.now c.args.offsets.now in
+pub returns-then-lot-ne0-2 : goal.returns-then-lot-ne0-2
+returns-then-lot-ne0-2 c =
+    let x = lot_held c.args.lot in
     let room = c.args.room in
-    fails x room 1 (omega arith) (after1 x room c.if-nodes-ne0.false) (ne_eqb _ _ c.if-elements-ne0.true)
+    fails x room 1 (omega arith) (after1 x room c.if-lot-ne0.false) (ne_eqb _ _ c.if-lot-ne0-2.true)
 
-pub returns-then-not-together : goal.returns-then-not-together
-returns-then-not-together c =
-    let x = runs c.args.label.now c.args.nodes.now c.args.elements.now c.args.names.now c.args.lengths.now c.args.offsets.now in
-    let room = c.args.room in
-    fails x room 2 (omega arith) (after2 x room c.if-nodes-ne0.false c.if-elements-ne0.false) (sym c.fit_together-together.ensures ∙ c.if-not-together.true)
-
-pub returns-then-not-short : goal.returns-then-not-short
-returns-then-not-short c =
-    let x = runs c.args.label.now c.args.nodes.now c.args.elements.now c.args.names.now c.args.lengths.now c.args.offsets.now in
-    let room = c.args.room in
-    let t = sym c.fit_together-together.ensures ∙ c.if-not-together.false in
-    fails x room 3 (omega arith) (after3 x room c.if-nodes-ne0.false c.if-elements-ne0.false t) (sym c.short_names-short.ensures ∙ c.if-not-short.true)
-
-pub returns-then-not-clean_names : goal.returns-then-not-clean_names
-returns-then-not-clean_names c =
-    let x = runs c.args.label.now c.args.nodes.now c.args.elements.now c.args.names.now c.args.lengths.now c.args.offsets.now in
-    let room = c.args.room in
-    let t = sym c.fit_together-together.ensures ∙ c.if-not-together.false in
-    let s = sym c.short_names-short.ensures ∙ c.if-not-short.false in
-    fails x room 4 (omega arith) (after4 x room c.if-nodes-ne0.false c.if-elements-ne0.false t s) (sym c.clean_names.ensures ∙ c.if-not-clean_names.true)
+pub returns-in_err-check : goal.returns-in_err-check
+returns-in_err-check c =
+    let p = err_from_is_err_and c.from_residual.result c.from_residual.ensures.1 in
+    ap written_held (p.1 ∙ ap Err p.2) ∙ refused c.args.lot c.args.room c.if-lot-ne0.false c.if-lot-ne0-2.false _ (sym (ap fault_told c.in_err-check.was) ∙ c.check.ensures)
 
 pub returns-then-elements-gt-MAX_ELEMENTS : goal.returns-then-elements-gt-MAX_ELEMENTS
 returns-then-elements-gt-MAX_ELEMENTS c =
-    let x = runs c.args.label.now c.args.nodes.now c.args.elements.now c.args.names.now c.args.lengths.now c.args.offsets.now in
+    let x = lot_held c.args.lot in
     let room = c.args.room in
-    let t = sym c.fit_together-together.ensures ∙ c.if-not-together.false in
-    let s = sym c.short_names-short.ensures ∙ c.if-not-short.false in
-    let k = sym c.clean_names.ensures ∙ c.if-not-clean_names.false in
-    fails x room 5 (omega arith) (after5 x room c.if-nodes-ne0.false c.if-elements-ne0.false t s k) (lt-leb _ _ c.if-elements-gt-MAX_ELEMENTS.true)
+    let p = told_by c.args.lot.label.now c.args.lot.groups (length c.args.lot.elements.now / 8) _ (sym (ap fault_told c.in_ok-check.was) ∙ c.check.ensures) in
+    let t = p.0 in
+    let s = p.1 in
+    let k = p.2 in
+    fails x room 5 (omega arith) (after5 x room c.if-lot-ne0.false c.if-lot-ne0-2.false t s k) (lt-leb _ _ c.if-elements-gt-MAX_ELEMENTS.true)
 
 pub returns-then-n-gt-MAX_BYTES : goal.returns-then-n-gt-MAX_BYTES
 returns-then-n-gt-MAX_BYTES c =
-    let x = runs c.args.label.now c.args.nodes.now c.args.elements.now c.args.names.now c.args.lengths.now c.args.offsets.now in
+    let x = lot_held c.args.lot in
     let room = c.args.room in
-    let t = sym c.fit_together-together.ensures ∙ c.if-not-together.false in
-    let s = sym c.short_names-short.ensures ∙ c.if-not-short.false in
-    let k = sym c.clean_names.ensures ∙ c.if-not-clean_names.false in
-    let counted : c.file_length-n.result ≡ capped (size x) = c.file_length-n.ensures ∙ ap capped (sym (long x c.if-nodes-ne0.false c.if-elements-ne0.false t)) in
-    fails x room 6 (omega arith) (after6 x room c.if-nodes-ne0.false c.if-elements-ne0.false t s k c.if-elements-gt-MAX_ELEMENTS.false) (lt-leb (size x) lot_file.bytes (omega (arith, counted, c.if-n-gt-MAX_BYTES.true)))
+    let p = told_by c.args.lot.label.now c.args.lot.groups (length c.args.lot.elements.now / 8) _ (sym (ap fault_told c.in_ok-check.was) ∙ c.check.ensures) in
+    let t = p.0 in
+    let s = p.1 in
+    let k = p.2 in
+    let counted : c.file_length-n.result ≡ capped (size x) = c.file_length-n.ensures ∙ ap capped (sym (long x c.if-lot-ne0.false c.if-lot-ne0-2.false t)) in
+    fails x room 6 (omega arith) (after6 x room c.if-lot-ne0.false c.if-lot-ne0-2.false t s k c.if-elements-gt-MAX_ELEMENTS.false) (lt-leb (size x) lot_file.bytes (omega (arith, counted, c.if-n-gt-MAX_BYTES.true)))
 
 pub returns-then-room-n : goal.returns-then-room-n
 returns-then-room-n c =
-    let x = runs c.args.label.now c.args.nodes.now c.args.elements.now c.args.names.now c.args.lengths.now c.args.offsets.now in
+    let x = lot_held c.args.lot in
     let room = c.args.room in
-    let t = sym c.fit_together-together.ensures ∙ c.if-not-together.false in
-    let s = sym c.short_names-short.ensures ∙ c.if-not-short.false in
-    let k = sym c.clean_names.ensures ∙ c.if-not-clean_names.false in
-    let counted : c.file_length-n.result ≡ capped (size x) = c.file_length-n.ensures ∙ ap capped (sym (long x c.if-nodes-ne0.false c.if-elements-ne0.false t)) in
-    let all = passes x room 6 (omega arith) (after6 x room c.if-nodes-ne0.false c.if-elements-ne0.false t s k c.if-elements-gt-MAX_ELEMENTS.false) (le-leb (size x) lot_file.bytes (omega (arith, counted, c.if-n-gt-MAX_BYTES.false))) in
+    let p = told_by c.args.lot.label.now c.args.lot.groups (length c.args.lot.elements.now / 8) _ (sym (ap fault_told c.in_ok-check.was) ∙ c.check.ensures) in
+    let t = p.0 in
+    let s = p.1 in
+    let k = p.2 in
+    let counted : c.file_length-n.result ≡ capped (size x) = c.file_length-n.ensures ∙ ap capped (sym (long x c.if-lot-ne0.false c.if-lot-ne0-2.false t)) in
+    let all = passes x room 6 (omega arith) (after6 x room c.if-lot-ne0.false c.if-lot-ne0-2.false t s k c.if-elements-gt-MAX_ELEMENTS.false) (le-leb (size x) lot_file.bytes (omega (arith, counted, c.if-n-gt-MAX_BYTES.false))) in
     fails x room 7 (omega arith) all (lt-leb (size x) room (omega (arith, counted, c.if-n-gt-MAX_BYTES.false, c.if-room-n.true)))
 
 pub returns : goal.returns
 returns c =
-    let x = runs c.args.label.now c.args.nodes.now c.args.elements.now c.args.names.now c.args.lengths.now c.args.offsets.now in
+    let x = lot_held c.args.lot in
     let room = c.args.room in
-    let t = sym c.fit_together-together.ensures ∙ c.if-not-together.false in
-    let s = sym c.short_names-short.ensures ∙ c.if-not-short.false in
-    let k = sym c.clean_names.ensures ∙ c.if-not-clean_names.false in
-    let counted : c.file_length-n.result ≡ capped (size x) = c.file_length-n.ensures ∙ ap capped (sym (long x c.if-nodes-ne0.false c.if-elements-ne0.false t)) in
-    let all = passes x room 6 (omega arith) (after6 x room c.if-nodes-ne0.false c.if-elements-ne0.false t s k c.if-elements-gt-MAX_ELEMENTS.false) (le-leb (size x) lot_file.bytes (omega (arith, counted, c.if-n-gt-MAX_BYTES.false))) in
+    let p = told_by c.args.lot.label.now c.args.lot.groups (length c.args.lot.elements.now / 8) _ (sym (ap fault_told c.in_ok-check.was) ∙ c.check.ensures) in
+    let t = p.0 in
+    let s = p.1 in
+    let k = p.2 in
+    let counted : c.file_length-n.result ≡ capped (size x) = c.file_length-n.ensures ∙ ap capped (sym (long x c.if-lot-ne0.false c.if-lot-ne0-2.false t)) in
+    let all = passes x room 6 (omega arith) (after6 x room c.if-lot-ne0.false c.if-lot-ne0-2.false t s k c.if-elements-gt-MAX_ELEMENTS.false) (le-leb (size x) lot_file.bytes (omega (arith, counted, c.if-n-gt-MAX_BYTES.false))) in
     let same : c.file_length-n.result ≡ size x = omega (arith, counted, c.if-n-gt-MAX_BYTES.false) in
     let whole = passes x room 7 (omega arith) all (le-leb (size x) room (omega (arith, same, c.if-room-n.false))) in
     ap length_is same ∙ sym (ap answer_of (all_written lot_file x room whole))

@@ -1,16 +1,14 @@
--- `missing_index` meets its contract. The loop's invariant: what is left of the search is the search from `k` on. Assumes nothing.
-use mathlib.Core.Path.{refl, ◌∙◌}
-use native.Mathlib.Omega.{arith}
-use borrow.Author.Tests.{lt-leb}
+-- `missing_index` meets its contract: the library's search is the definition's. Assumes nothing.
+use Rattle.std.proofs.Common.{refl, ◌∙◌, ap, leb, get_or, rules, tests}
+use Rattle.std.proofs.lemmas.Iterator.{YieldsList-from_slice}
+use Rattle.std.proofs.lemmas.Iterator.Search.{position_from_yields_List}
 use Rattle.definitions.specs.Mesh.{missing_index}
-use Rattle.mesh_points.specs.Search.{first_later}
+use Rattle.mesh_points.specs.Meaning.{first_of}
+use Rattle.mesh_points.specs.Search.{position_found}
 use Rattle.mesh_indices.proofs.missing_index.Goals as goal
 
-pub loop-k-init : goal.loop-k-init
+pub returns-clause-first : goal.returns-clause-first
 unfolding missing_index
-loop-k-init c = (omega arith, refl)
-
-pub loop-k-preserved : goal.loop-k-preserved
-loop-k-preserved c =
-    let passed = c in
-    (omega arith, passed.loop-k.invariant.1 ∙ first_later _ passed.loop-k.k 8 (omega arith) (lt-leb _ _ c.if-nodes-index.false))
+returns-clause-first c =
+    ap first_of (position_from_yields_List (leb c.args.nodes) _ _ c.position.result c.position.ensures.ran (YieldsList-from_slice c.args.ix.now cc) (λ x b q k. search (rules, tests)))
+    ∙ position_found _ _ 0 c.args.ix.now 8 c.told-ix (λ k h. refl)

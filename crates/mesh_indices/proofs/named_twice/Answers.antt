@@ -2,20 +2,14 @@
 use mathlib.Core.Path.{sym, ◌∙◌, ap}
 use native.Mathlib.Omega.{arith}
 use Rattle.mesh_points.specs.Meaning.{first_of}
-use Rattle.mesh_indices.specs.Pairs.{all_pairs, this_place, next_place}
+use Rattle.mesh_indices.specs.Pairs.{all_pairs, this_place, next_place, no_place}
 use Rattle.mesh_indices.proofs.named_twice.Goals as goal
 
 pub loop-first-init : goal.loop-first-init
-loop-first-init c = (omega arith, all_pairs c.args.ix.now)
+loop-first-init c = all_pairs c.args.ix.now
 
-pub returns-in-At : goal.returns-in-At
-returns-in-At c =
-    let found = c in
-    let at = found in
-    sym (at.loop-first.invariant.1 ∙ this_place at.args.ix.now at.loop-first.first _ (omega arith) (sym found.same_after-pair.ensures ∙ ap first_of c.in-At.is))
+pub returns-in-Some-clause-first : goal.returns-in-Some-clause-first
+returns-in-Some-clause-first c = sym (c.loop-first.invariant ∙ this_place c.args.ix.now c.loop-first.first _ (omega arith) (sym c.same_after.ensures.first ∙ ap first_of c.in-Some.is))
 
 pub loop-first-preserved : goal.loop-first-preserved
-loop-first-preserved c =
-    let passed = c in
-    let at = passed in
-    (omega arith, at.loop-first.invariant.1 ∙ next_place at.args.ix.now at.loop-first.first (omega arith) (sym passed.same_after-pair.ensures ∙ ap first_of c.in_default.is))
+loop-first-preserved c = c.loop-first.invariant ∙ next_place c.args.ix.now c.loop-first.first (omega arith) (sym c.same_after.ensures.first ∙ ap first_of c.in_default.is)

@@ -1,11 +1,7 @@
--- What holds when a turn of a loop of `all_near` begins, and what grows less.
-use mathlib.Core.Path.{◌≡◌}
-use Prim.Native.Nat.{◌-◌, ◌≤◌}
-use Rattle.narrow_points.specs.Points.{near_to}
+-- What holds when a turn of the loop of `all_near` begins.
+use Rattle.std.proofs.Common.{◌≡◌}
+use Rattle.cell_points.specs.OneWord.{near_to}
 use Rattle.search_points.proofs.all_near.Given as goal
 
-abbrev pub invariant-loop-k : goal.invariant-loop-k
-invariant-loop-k l = (l.k ≤ 24) × (l.near ≡ near_to l.p l.k)
-
-abbrev pub decreases-loop-k : goal.decreases-loop-k
-decreases-loop-k l = 24 - l.k
+abbrev pub invariant-loop-x : goal.invariant-loop-x
+invariant-loop-x l = l.near ≡ near_to l.p l.x-index

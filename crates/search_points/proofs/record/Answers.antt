@@ -1,7 +1,7 @@
 -- `search_points::record` meets its contract: by the numbers that suffice. Assumes nothing.
-use mathlib.Core.Path.{sym, ◌∙◌}
-use Rattle.narrow_points.specs.Points.{one_word_holds}
+use Rattle.std.proofs.Common.{sym, ◌∙◌, rules}
+use Rattle.cell_points.specs.OneWord.{one_word_holds}
 use Rattle.search_points.proofs.record.Goals as goal
 
 pub record-requires : goal.record-requires
-record-requires c = let s = c in one_word_holds s.args.p.now s.args.depth s.requires.p_len (sym c.one_word.ensures ∙ c.if-one_word.true)
+record-requires c = (search rules, one_word_holds c.args.p.now c.args.depth c.told-p (sym c.one_word.ensures ∙ c.if-one_word.true))

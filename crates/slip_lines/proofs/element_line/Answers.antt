@@ -1,8 +1,5 @@
 -- `element_line` meets its contract: part by part, what is left of the line. Assumes nothing.
-use mathlib.Core.Path.{refl, ap}
-use mathlib.Core.List.{[], ◌∷◌, map}
-use Prim.Native.Nat.{suc}
-use native.Mathlib.Numerals.{add-one}
+use Rattle.std.proofs.Common.{refl, ap, ◌≡◌, ◌∙◌, [], ◌∷◌, map, ℕ, suc, ◌+◌, add-one, arith}
 use Rattle.bytes_output.specs.Behind.{laid_as}
 use Rattle.bytes_output.specs.Progress.{first, last, laid_none, laid_more, laid_last}
 use Rattle.slip_format.specs.Decimal.{decimal, signed_decimal}
@@ -14,8 +11,9 @@ returns c =
     let element = c.args.element in
     let name = c.args.name.now in
     let words = map signed_decimal c.args.ws.now in
-    let begun = laid_none c.requires in
-    let behind_number = laid_more begun (first (decimal (suc element)) (ending (name ∷ words))) (laid_as c.args.at c.args.out.now (ap decimal (add-one element)) c.decimal-behind_number.ensures) in
-    let behind_name = laid_more behind_number (next_word name words) c.word-behind_name.ensures in
-    let behind_words = laid_more behind_name (first (spaced words) (10 ∷ [])) c.words-behind_words.ensures in
+    let count : c.from.result + 1 ≡ suc element = omega (arith, c.from.ensures) in
+    let begun = laid_none c.args.out.now c.requires in
+    let behind_number = laid_more begun (first (decimal (suc element)) (ending (name ∷ words))) (laid_as (ap decimal count) c.decimal.ensures) in
+    let behind_name = laid_more behind_number (next_word name words) c.word.ensures in
+    let behind_words = laid_more behind_name (first (spaced words) (10 ∷ [])) c.words.ensures in
     laid_last behind_words (last refl) c.byte.ensures

@@ -1,16 +1,9 @@
--- `words` meets its contract. The loop's invariant: what is left of the text from word `k` on. Assumes nothing.
-use mathlib.Core.Path.{sym, ◌∙◌, ap}
-use mathlib.Core.List.{List, ◌∷◌, map}
-use Prim.Native.Nat.{ℕ, ◌+◌, ◌<◌}
-use native.Mathlib.Omega.{arith}
-use borrow.Author.Rules.{rules}
-use lib.ListN.{get_or, length, drop}
-use lib.IntN.{ℤ, pos}
-use mir.Syntax.{w64}
-use mir.Val.{SFits, to_z, of_z}
+-- `words` meets its contract: the next word is laid, and those behind it are left. Assumes nothing.
+use Rattle.std.proofs.Common.{sym, ◌∙◌, ap, List, ◌∷◌, map, ℕ, ◌+◌, ◌<◌, rules, get_or, length, drop, ℤ, pos, w64, to_z, of_z, arith}
+use mir.Val.{SFits}
 use mir.ValLaws.{to_z-of_z}
 use Rattle.foundation.specs.Lists.{drop_next}
-use Rattle.bytes_output.specs.Progress.{Next, part_fits, laid_more}
+use Rattle.bytes_output.specs.Progress.{Next, laid_more}
 use Rattle.slip_format.specs.Decimal.{signed_decimal}
 use Rattle.slip_lines.specs.Spaced.{spaced}
 use Rattle.slip_lines.proofs.words.Goals as goal
@@ -25,8 +18,5 @@ due ws k h f =
     let same = sym (to_z-of_z w64 (get_or ws k (pos 0)) f) in
     record { parts = ap text_of (drop_next ws k (pos 0) h ∙ ap (λ (z : ℤ). z ∷ drop (k + 1) ws) same) }
 
-pub signed_number-next-requires : goal.signed_number-next-requires
-signed_number-next-requires c = part_fits c.loop-k.invariant.1 (due c.args.ws.now c.loop-k.k (omega arith) (record { sfits = search rules }))
-
-pub loop-k-preserved : goal.loop-k-preserved
-loop-k-preserved c = (omega arith, laid_more c.loop-k.invariant.1 (due c.args.ws.now c.loop-k.k (omega arith) (record { sfits = search rules })) c.signed_number-next.ensures)
+pub loop-w-preserved : goal.loop-w-preserved
+loop-w-preserved c = laid_more c.loop-w.invariant (due c.args.ws.now c.loop-w.w-index c.loop-w-test.true (record { sfits = search rules })) c.signed_number.ensures

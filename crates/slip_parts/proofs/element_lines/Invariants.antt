@@ -1,15 +1,13 @@
--- What holds when a turn of a loop of `element_lines` begins, and what grows less.
-use Prim.Native.Nat.{◌-◌, ◌/◌, ◌≤◌}
-use lib.ListN.{length}
+-- What holds when a turn of the loop of `element_lines` begins: the lines from there on are left to be written.
+use Rattle.std.proofs.Common.{◌/◌, length}
 use Rattle.definitions.specs.Limits.{record_words}
-use Rattle.lot_format.specs.Runs.{groups_of}
+use Rattle.lot_runs.specs.Meaning.{groups_held}
 use Rattle.slip_format.specs.Slip.{element_lines}
 use Rattle.bytes_output.specs.Progress.{Progress}
 use Rattle.slip_parts.proofs.Lines.{lines_from}
 use Rattle.slip_parts.proofs.element_lines.Given as goal
 
-abbrev pub invariant-loop-e : goal.invariant-loop-e
-invariant-loop-e l = (l.e ≤ l.n) × Progress l.at (element_lines l.label (groups_of l.names l.lengths l.offsets) record_words 0 (length l.report / record_words) l.report) l.initial.out (lines_from l.label (groups_of l.names l.lengths l.offsets) (length l.report / record_words) l.report l.e) l.out l.next
-
-abbrev pub decreases-loop-e : goal.decreases-loop-e
-decreases-loop-e l = l.n - l.e
+abbrev pub invariant-loop-k : goal.invariant-loop-k
+invariant-loop-k l =
+    Progress l.initial.out (element_lines l.label (groups_held l.groups) record_words 0 (length l.report / record_words) l.report)
+    (lines_from l.label (groups_held l.groups) (length l.report / record_words) l.report l.k) l.out

@@ -1,10 +1,7 @@
--- What holds when a turn of a loop of `put_joined` begins, and what grows less.
-use Prim.Native.Nat.{◌-◌, ◌≤◌}
-use Rattle.wide_coefficients.specs.Joined.{Begun}
+-- What holds when a turn of the loop of `put_joined` begins.
+use Rattle.foundation.specs.Filled.{Filled}
+use Rattle.wide_coefficients.specs.Joined.{join_at}
 use Rattle.wide_coefficients.proofs.put_joined.Given as goal
 
 abbrev pub invariant-loop-k : goal.invariant-loop-k
-invariant-loop-k l = (l.k ≤ 27) × Begun l.high l.low l.k l.out
-
-abbrev pub decreases-loop-k : goal.decreases-loop-k
-decreases-loop-k l = 27 - l.k
+invariant-loop-k l = Filled (join_at l.high l.low) 27 l.k l.out

@@ -9,6 +9,4 @@ returns-then-self-gt-MAX_DEPTH c = simp (lt-leb _ _ c.if-self-gt-MAX_DEPTH.true)
 
 pub returns : goal.returns
 unfolding is_cell
-returns c =
-    let called = c in
-    simp (le-leb _ _ called.if-self-gt-MAX_DEPTH.false, called.grid_size-size.ensures)
+returns c = simp (le-leb _ _ c.if-self-gt-MAX_DEPTH.false, c.grid_size-size.ensures)

@@ -4,9 +4,7 @@ use Rattle.cell_address.proofs.Address.parent.Goals as goal
 
 pub returns-then-is_cell-self : goal.returns-then-is_cell-self
 unfolding parent_address
-returns-then-is_cell-self c =
-    let made = c in
-    rw (← made.is_cell.ensures, made.if-is_cell-self.true)
+returns-then-is_cell-self c = rw (← c.is_cell.ensures, c.if-is_cell-self.true)
 
 pub returns-else-is_cell-self : goal.returns-else-is_cell-self
 unfolding parent_address

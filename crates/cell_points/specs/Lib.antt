@@ -1,0 +1,2 @@
+pub mod OneWord
+pub mod TwoWords
