@@ -2,7 +2,7 @@
 // its whole answer, every word of lent space included, by the same equations as `inspector`; `agreement` says of the two that they give the same.
 //   inspect   the records of a mesh's elements, into lent report space, with four counts; or why the mesh is refused
 //   bounds_of the low and the high bound of eight points at a depth; or why they are refused
-// It cuts one direction at a time, with numbers of two words from the differences of coordinates on, and looks at every cell that document 01 counts as opened,
+// It cuts one direction at a time, with numbers of 128 bits from the differences of coordinates on, and looks at every cell that document 01 counts as opened,
 // for the bounds at every cell of the level. Its volumes, coefficients, cut, search, bounds and the loop over a mesh's elements are its own (the crates `audit_*`); docs/TRUST.md has
 // the whole list of what it shares with the first.
 #![tactic(auto)]
