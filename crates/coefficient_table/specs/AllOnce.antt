@@ -4,7 +4,8 @@ use Rattle.std.proofs.Common.{◌∙◌, ap, ap₂, arith, eq-eqb, ne_eqb, lengt
 use Rattle.std.proofs.Math.ListN.{get_or-eq_default}
 use Rattle.foundation.specs.Lists.{All, concat_map, tabulate, all_tabulate}
 use Rattle.definitions.specs.Coefficients.{table, row}
-use Rattle.coefficient_table.specs.Sparse.{Entry, is_zero, kept, non_zero_from, sparse_row, AreSparseRows}
+use Rattle.coefficient_table.specs.Sparse.{Entry, is_zero, kept, non_zero_from, sparse_row, AreSparseRows, AreSparseRuns, held_row}
+use Rattle.coefficient_table.specs.SparseRuns.{transfer, rows_held}
 
 -- the numbers that a list has at place k
 abbrev pub values_at : ℕ → List Entry → List ℤ
@@ -25,6 +26,15 @@ pub record AllOnce (rows : ℕ → List Entry) : Type 0 where
   pub once : (n k : ℕ) → n < 27 → k < 20 → values_at k (rows n) ≡ unless_zero (get_or table (20 * n + k) (pos 0))
   -- and nothing past the row's 20 places
   pub none_past : (n k : ℕ) → n < 27 → 20 ≤ k → values_at k (rows n) ≡ []
+
+-- of runs that hold 27 lists
+pub record AllInRuns (starts : List ℕ) (terms : List Entry) : Type 0 where
+  -- "112": so many entries the runs have
+  pub number : length terms ≡ 112
+  -- the 27 lists, one after the other, are all of these entries
+  pub whole : concat_map (held_row starts terms) (tabulate (λ n. n) 0 27) ≡ terms
+  -- and they are all such places, each once, and no other
+  pub lists : AllOnce (held_row starts terms)
 
 -- ---- the non-zero places of any list of numbers
 abbrev cons_if : Bool → ℤ → List ℤ → List ℤ
@@ -82,3 +92,11 @@ all_once {rows} h = record {
   where
     end_to_end : concat_map rows (tabulate (λ n. n) 0 27) ≡ concat_map sparse_row (tabulate (λ n. n) 0 27)
     end_to_end = concat_map_cong rows sparse_row (λ n. n < 27) h.same (tabulate (λ n. n) 0 27) (all_tabulate (λ n. n < 27) (λ n. n) 0 27 (λ k p q. q))
+
+-- and of runs
+pub all_in_runs : {starts : List ℕ} {terms : List Entry} → AreSparseRuns starts terms → AllInRuns starts terms
+all_in_runs h = record {
+  number = transfer h (λ s t. length t ≡ 112) refl;
+  whole = transfer h (λ s t. concat_map (held_row s t) (tabulate (λ n. n) 0 27) ≡ t) refl;
+  lists = all_once (rows_held h);
+}

@@ -1,7 +1,14 @@
 // The table's rows without their zeros: for each row the list of its non-zero places with their numbers (document 02, No. 3), the 27 lists
 // laid end to end.
 ghost use Rattle.std.specs.Prelude.{◌≡◌, ◌<◌};
-ghost use Rattle.coefficient_table.specs.Sparse.{sparse_row};
+ghost use Rattle.coefficient_table.specs.Sparse.{sparse_row, AreSparseRuns};
+
+// The 27 lists laid end to end, and where each starts and, last, where the 27th ends.
+#[derive(Clone, Copy)]
+pub struct SparseRows {
+    pub starts: &'static [usize; 28],
+    pub terms: &'static [(usize, i64); 112],
+}
 
 // Where each row's list starts and, last, where the 27th ends. (27 slices in one array would be held to the definition only by names that the compiler
 // makes.)
@@ -152,10 +159,21 @@ const TERMS: [(usize, i64); 112] = [
     (19, 1),
 ];
 
+// The 27 lists.
+pub fn lists() -> SparseRows
+    ensures { AreSparseRuns result.starts.now result.terms.now }
+{
+    SparseRows {
+        starts: &STARTS,
+        terms: &TERMS,
+    }
+}
+
 // The list of row n, counted from 0.
 pub fn row(n: usize) -> &'static [(usize, i64)]
     requires { n < 27 }
     ensures { result.now ≡ sparse_row n }
 {
-    &TERMS[STARTS[n]..STARTS[n + 1]]
+    let SparseRows { starts, terms } = lists();
+    &terms[starts[n]..starts[n + 1]]
 }
