@@ -2,9 +2,21 @@
 // `Numbers` of the crate `lot_format` has it.
 #![tactic(auto)]
 
-ghost use Rattle.std.specs.Prelude.{◌≡◌, [], ◌∷◌};
+ghost use Rattle.std.specs.Prelude.{◌≡◌, [], ◌∷◌, ◌+◌, ◌≤◌, length};
+ghost use Rattle.foundation.specs.Laid.{put};
 ghost use Rattle.lot_format.specs.Numbers.{number_bytes};
 ghost use Rattle.bytes_output.specs.Behind.{Room, Laid};
+
+// A run of bytes over lent space from a place on, byte by byte: for a copy of two runs that might lie over each other the compiler would call
+// `memmove`, and who links the library from C would have to bring it.
+pub fn put(space: &mut [u8], at: usize, xs: &[u8])
+    requires { at + length xs.now ≤ length space.old }
+    ensures { space.new ≡ put at xs.now space.old }
+{
+    for k in 0..xs.len() {
+        space[at + k] = xs[k];
+    }
+}
 
 // Lent space, with the place behind what is written. That there is room is asked of each text: no type can hold it, since it is another text each time.
 #[derive(Drop)]
@@ -28,9 +40,8 @@ impl Output<'_> {
         requires { Room self.old xs.now }
         ensures { Laid self.old xs.now self.new }
     {
-        let end = self.at + xs.len();
-        self.space[self.at..end].copy_from_slice(xs);
-        self.at = end;
+        put(self.space, self.at, xs);
+        self.at += xs.len();
     }
 
     // The two bytes of a number.

@@ -1,8 +1,5 @@
--- The numbers of a run by their places, and a part of a run written at once. Assumes nothing.
+-- The numbers of a run by their places. Assumes nothing.
 use Rattle.std.proofs.Common.{◌≡◌, refl, ◌∙◌, ap, arith, List, ℕ, zero, suc, ◌+◌, ◌*◌, ◌<◌, get_or, length, take, drop, drop-drop}
-use Rattle.std.proofs.lemmas.Slice.{put_mid-paste}
-use borrow.Rule.Slice.PartMut.{put_mid}
-use Rattle.foundation.specs.Laid.{put, paste_all}
 use Rattle.lot_format.specs.Numbers.{number, unsigneds}
 
 pub get_d_unsigneds : (n k : ℕ) (bs : List ℕ) → k < n → get_or (unsigneds n bs) k 0 ≡ number (take 4 (drop (4 * k) bs))
@@ -13,6 +10,3 @@ get_d_unsigneds (suc n) (suc k) bs h = let e : 4 + 4 * k ≡ 4 * suc k = omega a
 pub length_unsigneds : (n : ℕ) (bs : List ℕ) → length (unsigneds n bs) ≡ n
 length_unsigneds zero bs = refl
 length_unsigneds (suc n) bs = ap suc (length_unsigneds n (drop 4 bs))
-
-pub put_part : (a k : ℕ) (xs ys name : List ℕ) → ys ≡ name → length name ≡ k → put_mid a k xs ys ≡ put a name xs
-put_part a k xs ys name e l = put_mid-paste a k xs ys name (length name) e l refl ∙ paste_all xs name a

@@ -26,6 +26,16 @@ fn put_words<T: Word, const N: usize>(file: &[u8], at: usize, words: &mut [T], n
     }
 }
 
+// Writes a name to the lent bytes from n on. It is a call of its own: laid into the loop over a file's entries its own loop would take the room that nodes and
+// elements need.
+#[inline(never)]
+fn put_name(names: &mut [u8], n: usize, name: &[u8])
+    requires { n + length name.now ≤ length names.old }
+    ensures { names.new ≡ put n name.now names.old }
+{
+    bytes_output::put(names, n, name)
+}
+
 // Writes what an entry holds, whose body starts at a place of the file, behind what the entries before it held: n counts that.
 pub fn put_entry(file: &[u8], at: usize, entry: Entry, space: &mut Space, n: Counts)
     requires { Fitting (mark_held entry.mark) file.now at entry.len n (room_held space.old) }
@@ -37,8 +47,7 @@ pub fn put_entry(file: &[u8], at: usize, entry: Entry, space: &mut Space, n: Cou
         Mark::ND => put_words::<i32, 3>(file, at, space.nodes, 3 * n.nodes),
         Mark::HX => put_words::<u32, 8>(file, at, space.elements, 8 * n.elements),
         Mark::GR => {
-            let end = n.names + entry.len;
-            space.names[n.names..end].copy_from_slice(&file[at..at + entry.len]);
+            put_name(space.names, n.names, &file[at..at + entry.len]);
             space.lengths[n.groups] = entry.len as u32;
             space.offsets[n.groups] = n.elements as u32;
         }

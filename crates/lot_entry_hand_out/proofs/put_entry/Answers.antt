@@ -1,11 +1,10 @@
 -- `put_entry` meets its contract: by the cases of the mark. Assumes nothing.
-use Rattle.std.proofs.Common.{◌≡◌, sym, ◌∙◌, ap, arith, ℕ, List, ◌+◌, ◌-◌, ◌*◌, take, drop, length, length-drop, length-take-le}
+use Rattle.std.proofs.Common.{◌≡◌, ◌∙◌, ap, arith, ℕ, List, ◌+◌, ◌-◌, ◌*◌, take, drop}
 use Rattle.std.proofs.lemmas.List.{map-id}
 use Rattle.foundation.specs.Laid.{put, put_one}
 use Rattle.lot_format.specs.Numbers.{unsigneds}
 use Rattle.lot_runs.specs.Meaning.{space_held}
 use Rattle.lot_entry_hand_out.specs.EntryRuns.{fit_by, laid_element, laid_group}
-use Rattle.lot_entry_hand_out.proofs.Laws.{put_part}
 use Rattle.lot_entry_hand_out.proofs.put_entry.Goals as goal
 
 pub returns-in-HX-clause-laid : goal.returns-in-HX-clause-laid
@@ -20,11 +19,7 @@ returns-in-GR-clause-laid c =
     let n = c.args.n in
     let space = c.args.space.now in
     let fit = fit_by c.in-GR.is c.requires in
-    let name = take len (drop at file) in
     let whole : at + len - at ≡ len = omega arith in
-    let part = c.copy_from_slice.ensures.after ∙ ap (λ (k : ℕ). take k (drop at file)) whole in
-    let long : length name ≡ len = length-take-le len (drop at file) (simp length-drop (omega (arith, fit.within))) in
-    let room : n.names + len - n.names ≡ len = omega arith in
-    rw c.in-GR.is (laid_group file at len n (space_held space) fit (put_part n.names (n.names + len - n.names) space.names.now c.copy_from_slice.new.self name part (long ∙ sym room))
+    rw c.in-GR.is (laid_group file at len n (space_held space) fit (c.put_name.ensures ∙ ap (λ (k : ℕ). put n.names (take k (drop at file)) space.names.now) whole)
     (put_one n.groups len space.lengths.now (omega (arith, fit.lengths_fit)))
     (put_one n.groups n.elements space.offsets.now (omega (arith, fit.offsets_fit))))
