@@ -60,15 +60,13 @@ fn cut_row(c: &[i128; 27], d: Direction, j: usize, lower: &mut [i128; 27], upper
     upper[z] = 4 * r;
 }
 
-// Both halves of c across direction d, the lower and the upper, four times larger.
-pub fn cut(d: Direction, c: &[i128; 27]) -> ([i128; 27], [i128; 27])
+// Both halves of c across direction d, the lower and the upper, four times larger. They are lent: handed back by value they are copied at every cut, and a
+// deep walk takes a third longer.
+pub fn cut(d: Direction, c: &[i128; 27], lower: &mut [i128; 27], upper: &mut [i128; 27])
     requires { Cuttable largest c.now }
-    ensures { (result.0 ≡ halve (axis d) 0 c.now) × (result.1 ≡ halve (axis d) 1 c.now) }
+    ensures { (lower.new ≡ halve (axis d) 0 c.now) × (upper.new ≡ halve (axis d) 1 c.now) }
 {
-    let mut lower = [0; 27];
-    let mut upper = [0; 27];
     for j in 0..9 {
-        cut_row(c, d, j, &mut lower, &mut upper);
+        cut_row(c, d, j, lower, upper);
     }
-    (lower, upper)
 }

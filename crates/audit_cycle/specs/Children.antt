@@ -1,6 +1,7 @@
 -- The eight children of a cell by its four quarters.
-use Rattle.std.specs.Prelude.{◌≡◌, refl, List, [], ℕ, zero, suc, ◌+◌, ◌*◌, ◌-◌, ◌^◌, ◌<◌, ◌≤◌, get_or, set, length, ℤ}
+use Rattle.std.specs.Prelude.{◌≡◌, List, [], ◌++◌, ℕ, zero, suc, ◌+◌, ◌-◌, ◌^◌, ◌<◌, ◌≤◌, get_or, set, length, ℤ}
 use Rattle.std.proofs.Common.{sym, ◌∙◌, ap, subst, arith, le_trans, mul-le-mul_left, zero-lt-suc, length-set, get_or-set_same, get_or-set_other}
+use Rattle.std.proofs.lemmas.List.{set-append_left, set-append_right}
 use Rattle.std.proofs.Math.Nat.{pow-le-pow_right}
 use Rattle.std.proofs.Math.Decide.{ℕ_discrete}
 use Rattle.definitions.specs.Jacobian.{side}
@@ -41,6 +42,20 @@ one_laid {quarters} {n} {children} {after} {lower} {upper} l h p q e = record {
         | no s ↦ get_or-set_other (set children n lower) (n + 4) (k + 4) upper [] (λ z. s (omega (arith, z))) ∙ get_or-set_other children n (k + 4) lower [] (λ z. absurd (omega (arith, z, h))) ∙ l.above k (omega (arith, m, s))
       ];
 }
+
+-- the same where the lower halves stand in one part and the upper ones in another
+pub one_laid_apart : {quarters : List (List ℤ)} {n : ℕ} (lowers uppers : List (List ℤ)) {lowers' uppers' : List (List ℤ)} {lower upper : List ℤ} → Laid quarters n (lowers ++ uppers) → length lowers ≡ 4 → n < 4
+    → lower ≡ halve 2 0 (cells quarters n) → upper ≡ halve 2 1 (cells quarters n) → lowers' ≡ set lowers n lower → uppers' ≡ set uppers n upper → Laid quarters (n + 1) (lowers' ++ uppers')
+one_laid_apart {quarters} {n} lowers uppers {lowers'} {uppers'} {lower} {upper} l s h p q d e = one_laid l h p q both
+  where
+    there : n + 4 - 4 ≡ n
+    there = omega arith
+
+    second : set (set lowers n lower ++ uppers) (n + 4) upper ≡ set lowers n lower ++ set uppers n upper
+    second = set-append_right (set lowers n lower) uppers 4 (n + 4) upper (length-set lowers n lower ∙ s) (omega arith) ∙ ap (λ (k : ℕ). set lowers n lower ++ set uppers k upper) there
+
+    both : lowers' ++ uppers' ≡ set (set (lowers ++ uppers) n lower) (n + 4) upper
+    both = (λ i. d i ++ e i) ∙ sym (ap (λ (gs : List (List ℤ)). set gs (n + 4) upper) (set-append_left lowers uppers n lower (omega (arith, s, h))) ∙ second)
 
 -- ---- a cell with levels below it has room for one
 pub one_level : (x m : ℕ) → Grid x (m + 1) → Grid x 1

@@ -18,17 +18,14 @@ use audit_cut::Direction;
 use audit_notes::{Notes, Point};
 
 // Both halves across ζ of each of the four quarters of a cell in the order of the corners that they touch: the eight children in path order.
-fn eighths(quarters: &[[i128; 27]; 4]) -> [[i128; 27]; 8]
+fn eighths(quarters: &[[i128; 27]; 4], children: &mut [[i128; 27]; 8])
     requires { (k : ℕ) → k < 4 → Cuttable largest (cells quarters.now k) }
-    ensures { Eighths quarters.now result }
+    ensures { Eighths quarters.now children.new }
 {
-    let mut children = [[0; 27]; 8];
+    let (lower, upper) = children.split_at_mut(4);
     for (k, quarter) in quarters.iter().enumerate() {
-        let (lower, upper) = audit_cut::cut(Direction::Zeta, quarter);
-        children[k] = lower;
-        children[k + 4] = upper;
+        audit_cut::cut(Direction::Zeta, quarter, &mut lower[k], &mut upper[k]);
     }
-    children
 }
 
 // The first corner of child k, 0 to 7, of the cell at p.
@@ -55,7 +52,9 @@ pub fn xi(g: &[i128; 27], p: Point, left: u32, n: Notes) -> Notes
     if audit_notes::stops(g, n) {
         return n;
     }
-    let (lower, upper) = audit_cut::cut(Direction::Xi, g);
+    let mut lower = [0; 27];
+    let mut upper = [0; 27];
+    audit_cut::cut(Direction::Xi, g, &mut lower, &mut upper);
     eta(&lower, &upper, p, left - 1, n)
 }
 
@@ -65,9 +64,11 @@ fn eta(lower: &[i128; 27], upper: &[i128; 27], p: Point, left: u32, n: Notes) ->
     requires { InHalves largest lower.now upper.now p.a p.b p.c (left / 3) × (left % 3 ≡ 2) × (opened (notes_of n) + 8 ^ (left / 3 + 1) < 2 ^ 32) }
     ensures { (g : List ℤ) → Halves g lower.now upper.now → notes_of result ≡ through (walk (left / 3)) (children_of (cell_at p g)) (notes_of n) }
 {
-    let (q1, q4) = audit_cut::cut(Direction::Eta, lower);
-    let (q2, q3) = audit_cut::cut(Direction::Eta, upper);
-    zeta(&[q1, q2, q3, q4], p, left - 1, n)
+    let mut quarters = [[0; 27]; 4];
+    let (first, second) = quarters.split_at_mut(2);
+    audit_cut::cut(Direction::Eta, lower, &mut first[0], &mut second[1]);
+    audit_cut::cut(Direction::Eta, upper, &mut first[1], &mut second[0]);
+    zeta(&quarters, p, left - 1, n)
 }
 
 // The four quarters of the cell in the order of the corners that they touch, each cut across ζ, and the eight children one after the other.
@@ -76,7 +77,8 @@ fn zeta(quarters: &[[i128; 27]; 4], p: Point, left: u32, n: Notes) -> Notes
     requires { InQuarters largest (cells quarters.now 0) (cells quarters.now 1) (cells quarters.now 2) (cells quarters.now 3) p.a p.b p.c (left / 3) × (left % 3 ≡ 1) × (opened (notes_of n) + 8 ^ (left / 3 + 1) < 2 ^ 32) }
     ensures { (g : List ℤ) → Quarters g (cells quarters.now 0) (cells quarters.now 1) (cells quarters.now 2) (cells quarters.now 3) → notes_of result ≡ through (walk (left / 3)) (children_of (cell_at p g)) (notes_of n) }
 {
-    let children = eighths(quarters);
+    let mut children = [[0; 27]; 8];
+    eighths(quarters, &mut children);
     let mut notes = n;
     for (k, child) in children.iter().enumerate() {
         notes = xi(child, child_point(p, k as u32), left - 1, notes);

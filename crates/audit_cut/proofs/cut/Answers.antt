@@ -1,5 +1,5 @@
 -- `cut` meets its contract: all nine rows of both halves. Assumes nothing.
-use mathlib.Core.Path.{◌≡◌, refl, subst}
+use mathlib.Core.Path.{◌≡◌, subst}
 use Prim.Native.Nat.{ℕ}
 use native.Mathlib.Omega.{arith}
 use Rattle.audit_cut.specs.Direction.{axis, axis_less}
@@ -7,7 +7,7 @@ use Rattle.audit_cut.specs.Rows.{BothHeld, none_yet, both_halves}
 use Rattle.audit_cut.proofs.cut.Goals as goal
 
 pub loop-j-init : goal.loop-j-init
-loop-j-init c = none_yet (axis c.args.d) c.requires refl refl
+loop-j-init c = none_yet (axis c.args.d) c.requires (omega arith) (omega arith)
 
 pub cut_row-requires : goal.cut_row-requires
 cut_row-requires c = (omega (arith, c.loop-j-test.true), c.loop-j.invariant)

@@ -7,12 +7,12 @@ use Prim.Native.Nat.{ℕ, suc, ◌+◌, ◌*◌, ◌-◌, ◌/◌, ◌%◌, ◌^
 use native.Mathlib.Omega.{arith}
 use lib.IntN.{ℤ}
 use Rattle.definitions.specs.Jacobian.{side}
-use Rattle.definitions.specs.Subdivision.{halve, children}
+use Rattle.definitions.specs.Subdivision.{children}
 use Rattle.expansion_theory.specs.Control.{Cuttable}
 use Rattle.verdict_theory.specs.Clear.{child_control}
 use Rattle.search_theory.specs.Meaning.{cell_of, Room}
 use Rattle.audit_theory.specs.Walk.{Notes, opened, through, walk, walk_last, walk_by}
-use Rattle.audit_theory.specs.Cuts.{first_cut, second_cut, third_cut, InQuarters, made_room, made_cell, over, over_next, over_all, levels_left, same_levels, last_levels, none_more}
+use Rattle.audit_theory.specs.Cuts.{first_cut, second_cut, InQuarters, made_room, made_cell, over, over_next, over_all, levels_left, same_levels, last_levels}
 use Rattle.audit_theory.proofs.Counted.{over_room}
 use Rattle.audit_cut.specs.Word.{largest}
 use Rattle.audit_notes.specs.Meaning.{cell_at, notes_of}
@@ -65,8 +65,8 @@ child_asks left a b c n h third fits k l d p q r e = let deep = (left - 1) / 3 i
       over_room (cell_of a b c h.control) deep n k l (subst (λ (m : ℕ). opened n + 8 ^ (m + 1) < 2 ^ 32) same fits) d,
     )
 
-pub zeta-eighths-children-requires : goal.zeta-eighths-children-requires
-zeta-eighths-children-requires t c = let h = c.requires.0 in quarters_cut h.control c.args.quarters.now h.quarters largest (c.args.left / 3) h.room.small
+pub zeta-eighths-requires : goal.zeta-eighths-requires
+zeta-eighths-requires t c = let h = c.requires.0 in quarters_cut h.control c.args.quarters.now h.quarters largest (c.args.left / 3) h.room.small
 
 pub zeta-child_point-requires : goal.zeta-child_point-requires
 zeta-child_point-requires t c = let r = c.requires.0.room in (one_level c.args.p.a (c.args.left / 3) r.a_grid, one_level c.args.p.b (c.args.left / 3) r.b_grid, one_level c.args.p.c (c.args.left / 3) r.c_grid)
@@ -76,11 +76,11 @@ zeta-loop-k-init t c = λ g q. refl
 
 pub zeta-xi-notes-requires : goal.zeta-xi-notes-requires
 zeta-xi-notes-requires t c = let s = c.args in let p = s.p in let h = c.requires.0 in let k = c.loop-k.k in let at = c.child_point.ensures in
-    (omega (arith, c.decreases, c.requires.1), child_asks s.left p.a p.b p.c (notes_of s.n) h c.requires.1 c.requires.2 k c.loop-k-test.true (c.loop-k.invariant h.control h.quarters) at.0 at.1 at.2 (child_is h.control s.quarters.now h.quarters c.eighths-children.ensures k c.loop-k-test.true))
+    (omega (arith, c.decreases, c.requires.1), child_asks s.left p.a p.b p.c (notes_of s.n) h c.requires.1 c.requires.2 k c.loop-k-test.true (c.loop-k.invariant h.control h.quarters) at.0 at.1 at.2 (child_is h.control s.quarters.now h.quarters c.eighths.ensures k c.loop-k-test.true))
 
 pub zeta-loop-k-preserved : goal.zeta-loop-k-preserved
 zeta-loop-k-preserved t c = λ g q. let s = c.args in let p = s.p in let k = c.loop-k.k in let at = c.child_point.ensures in let deep = (s.left - 1) / 3 in let e : suc k ≡ k + 1 = omega arith in
-    gone p.a p.b p.c deep (notes_of s.n) g k (c.loop-k.invariant g q) at.0 at.1 at.2 (child_is g s.quarters.now q c.eighths-children.ensures k c.loop-k-test.true) c.xi-notes.ensures
+    gone p.a p.b p.c deep (notes_of s.n) g k (c.loop-k.invariant g q) at.0 at.1 at.2 (child_is g s.quarters.now q c.eighths.ensures k c.loop-k-test.true) c.xi-notes.ensures
     ∙ ap (over (cell_at p g) deep (notes_of s.n)) e
 
 pub zeta-returns : goal.zeta-returns
