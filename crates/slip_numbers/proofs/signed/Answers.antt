@@ -1,11 +1,11 @@
 -- `signed` meets its contract: by the number's sign. Assumes nothing.
-use Rattle.std.proofs.Common.{sym, subst, List, [], ◌∷◌, ◌++◌, ℕ, ◌<◌, ◌≡◌, ◌∙◌, ap, nat_abs, true, false, true≢false, ℤ, pos, refl, arith, w64}
+use Rattle.std.proofs.Common.{sym, subst, [], ◌∷◌, ◌<◌, ◌≡◌, ◌∙◌, ap, nat_abs, true, false, true≢false, ℤ, pos, refl, arith, w64}
 use lib.Dec.{T, ltb→lt}
 use lib.IntN.{negsuc}
 use lib.Signed.{lt_z}
 use mir.ValLaws.{to_z-of_z}
 use Rattle.bytes_output.specs.declared.Output.{Output}
-use Rattle.bytes_output.specs.Behind.{Room, Laid, laid_as}
+use Rattle.bytes_output.specs.Behind.{Laid, laid_as}
 use Rattle.bytes_output.specs.Progress.{last, laid_none, laid_more, laid_last}
 use Rattle.slip_format.specs.Decimal.{decimal, signed_decimal}
 use Rattle.slip_numbers.proofs.signed.Goals as goal
