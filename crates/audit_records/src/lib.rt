@@ -16,8 +16,9 @@ fn element(coordinates: &[i32], ix: &[u32; 8], depth: u32) -> [i64; RECORD_WORDS
     requires { depth ≤ base.depth }
     ensures { result ≡ element_record base coordinates.now ix.now depth }
 {
-    match mesh_elements::points(coordinates, ix) {
-        Ok(p) => audit_points::record(&p, depth),
+    let mut p = [0; 24];
+    match mesh_elements::points(coordinates, ix, &mut p) {
+        Ok(()) => audit_points::record(&p, depth),
         Err(fault) => mesh_elements::fault_words(Some(fault)),
     }
 }

@@ -13,8 +13,9 @@ pub fn element(coordinates: &[i32], ix: &[u32; 8], depth: u32) -> [i64; RECORD_W
     requires { depth ≤ base.depth }
     ensures { result ≡ element_record base coordinates.now ix.now depth }
 {
-    match mesh_elements::points(coordinates, ix) {
-        Ok(p) => search_points::record(&p, depth),
+    let mut p = [0; 24];
+    match mesh_elements::points(coordinates, ix, &mut p) {
+        Ok(()) => search_points::record(&p, depth),
         Err(fault) => mesh_elements::fault_words(Some(fault)),
     }
 }

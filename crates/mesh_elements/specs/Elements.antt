@@ -8,7 +8,7 @@ use Rattle.definitions.specs.Record.{Fault, missing, twice, outside}
 use Rattle.definitions.specs.Mesh.{missing_index, named_twice, points_of, out_of_range, fault_by, fault_of}
 use Rattle.mesh_points.specs.Search.{never}
 use Rattle.mesh_indices.specs.Pairs.{LowestPair, lowest_pair, distinct}
-use Rattle.mesh_elements.specs.Meaning.{points_after, refused_words}
+use Rattle.mesh_elements.specs.Meaning.{points_after, points_left, refused_words}
 
 -- ---- why an element is refused, by what the three searches find
 fault_by_none : (ix : List ℕ) (m t o : Option ℕ) → fault_by ix m t o ≡ none → (m ≡ none) × (t ≡ none) × (o ≡ none)
@@ -45,6 +45,23 @@ module _ (coordinates : List ℤ) (ix : List ℕ) (before : List ℤ) where
   pub points_gathered : missing_index (length coordinates / 3) ix ≡ none → points_of coordinates ix ≡ points_after coordinates ix before
   unfolding points_after
   points_gathered m = sym (ap placed m)
+
+-- where its points go if they are looked up after its pairs
+module _ (coordinates : List ℤ) (ix : List ℕ) (before : List ℤ) where
+  abbrev left_by : Option ℕ → Option ℕ → List ℤ
+  left_by m t = elim m [ some k ↦ before | none ↦ elim t [ some k ↦ before | none ↦ points_of coordinates ix ] ]
+
+  pub left_missing : (k : ℕ) → missing_index (length coordinates / 3) ix ≡ some k → before ≡ points_left coordinates ix before
+  unfolding points_left
+  left_missing k m = sym (ap (λ (o : Option ℕ). left_by o (named_twice ix)) m)
+
+  pub left_twice : (k : ℕ) → missing_index (length coordinates / 3) ix ≡ none → named_twice ix ≡ some k → before ≡ points_left coordinates ix before
+  unfolding points_left
+  left_twice k m t = sym (λ i. left_by (m i) (t i))
+
+  pub left_given : missing_index (length coordinates / 3) ix ≡ none → named_twice ix ≡ none → points_of coordinates ix ≡ points_left coordinates ix before
+  unfolding points_left
+  left_given m t = sym (λ i. left_by (m i) (t i))
 
 -- What holds of an element that is not refused.
 pub record Whole (L : Limits) (coordinates : List ℤ) (ix : List ℕ) : Type 0 where

@@ -12,13 +12,13 @@ use Rattle.mesh_elements.specs.declared.Fault.{Fault as HeldFault}
 use Rattle.mesh_elements.specs.Meaning.{element_of, fault_held}
 use Rattle.mesh_elements.specs.Elements.{whole_element}
 
-module _ (coordinates : List ℤ) (ix : List ℕ) (x : Result (List ℤ) HeldFault) (told : element_of x ≡ fault_of base coordinates ix) where
-  fault_is : {y : Result (List ℤ) HeldFault} → x ≡ y → fault_of base coordinates ix ≡ element_of y
+module _ {A : Type 0} (coordinates : List ℤ) (ix : List ℕ) (x : Result A HeldFault) (told : element_of x ≡ fault_of base coordinates ix) where
+  fault_is : {y : Result A HeldFault} → x ≡ y → fault_of base coordinates ix ≡ element_of y
   fault_is e = sym told ∙ ap element_of e
 
-  module _ (given : IfOk x (λ p. p ≡ points_of coordinates ix)) {p : List ℤ} (e : x ≡ Ok p) where
+  module _ (p : List ℤ) (given : IfOk x (λ _. p ≡ points_of coordinates ix)) {u : A} (e : x ≡ Ok u) where
     gathered : p ≡ points_of coordinates ix
-    gathered = IfOk-at_ok (λ p. p ≡ points_of coordinates ix) e given
+    gathered = IfOk-at_ok (λ _. p ≡ points_of coordinates ix) e given
 
     pub whole_sized : length p ≡ 24
     whole_sized = ap length gathered ∙ length_points coordinates ix

@@ -3,11 +3,12 @@
 // Every answer is an equation with `Mesh` and `Record` of the definitions at the limits `base`.
 #![tactic(auto)]
 
-ghost use Rattle.std.specs.Prelude.{◌≡◌, pos, IfOk};
+ghost use Rattle.std.specs.Prelude.{◌≡◌, ◌/◌, length, pos, IfOk};
+ghost use Rattle.std.proofs.Math.Option.{none};
 ghost use Rattle.definitions.specs.Limits.{base};
 ghost use Rattle.definitions.specs.Record.{words};
-ghost use Rattle.definitions.specs.Mesh.{fault_of, points_of};
-ghost use Rattle.mesh_elements.specs.Meaning.{element_of, fault_told, refused_words};
+ghost use Rattle.definitions.specs.Mesh.{missing_index, fault_of, points_of};
+ghost use Rattle.mesh_elements.specs.Meaning.{element_of, points_left, fault_told, refused_words};
 
 use limits::RECORD_WORDS;
 
@@ -22,11 +23,36 @@ pub enum Fault {
     Outside { place: u32, axis: u32 },
 }
 
-// The eight points of an element that can be inspected, or why it is refused: a missing node goes before a node named twice, and this before a coordinate
-// out of range.
-pub fn points(coordinates: &[i32], ix: &[u32; 8]) -> Result<[i32; 24], Fault>
+// The same as below of an element whose indices all name nodes. It is a call of its own, so that the room that it needs is not made where a node is missing.
+#[inline(never)]
+fn named_points(coordinates: &[i32], ix: &[u32; 8], p: &mut [i32; 24]) -> Result<(), Fault>
+    requires { missing_index (length coordinates.now / 3) ix.now ≡ none }
     ensures result_value { element_of result ≡ fault_of base coordinates.now ix.now }
-    ensures points { IfOk result (λ p. p ≡ points_of coordinates.now ix.now) }
+    ensures points { IfOk result (λ _. p.new ≡ points_of coordinates.now ix.now) }
+    ensures lent { p.new ≡ points_left coordinates.now ix.now p.old }
+{
+    if let Some(k) = mesh_indices::named_twice(ix) {
+        return Err(Fault::Twice {
+            lower: k as u32 / 8 + 1,
+            higher: k as u32 % 8 + 1,
+        });
+    }
+    mesh_points::gather(coordinates, ix, p);
+    if let Some(k) = mesh_points::out_of_range(p) {
+        return Err(Fault::Outside {
+            place: k as u32 / 3 + 1,
+            axis: k as u32 % 3 + 1,
+        });
+    }
+    Ok(())
+}
+
+// The eight points of an element that can be inspected, into p, or why it is refused: a missing node goes before a node named twice, and this before a
+// coordinate out of range. Where a node is missing or named twice, p stays as it is.
+pub fn points(coordinates: &[i32], ix: &[u32; 8], p: &mut [i32; 24]) -> Result<(), Fault>
+    ensures result_value { element_of result ≡ fault_of base coordinates.now ix.now }
+    ensures points { IfOk result (λ _. p.new ≡ points_of coordinates.now ix.now) }
+    ensures lent { p.new ≡ points_left coordinates.now ix.now p.old }
 {
     if let Some(k) = mesh_indices::missing_index(coordinates.len() / 3, ix) {
         return Err(Fault::Missing {
@@ -34,20 +60,7 @@ pub fn points(coordinates: &[i32], ix: &[u32; 8]) -> Result<[i32; 24], Fault>
             index: ix[k],
         });
     }
-    if let Some(k) = mesh_indices::named_twice(ix) {
-        return Err(Fault::Twice {
-            lower: k as u32 / 8 + 1,
-            higher: k as u32 % 8 + 1,
-        });
-    }
-    let p = mesh_points::gather(coordinates, ix);
-    if let Some(k) = mesh_points::out_of_range(&p) {
-        return Err(Fault::Outside {
-            place: k as u32 / 3 + 1,
-            axis: k as u32 % 3 + 1,
-        });
-    }
-    Ok(p)
+    named_points(coordinates, ix, p)
 }
 
 // The record of an element that is refused: the number, and the two that name the fault. It is words, as `words` of the definitions has it.

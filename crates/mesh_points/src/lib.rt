@@ -25,12 +25,12 @@ pub fn out_of_range(p: &[i32; 24]) -> Option<usize>
     p.iter().position(|x| !usable(*x))
 }
 
-// The eight points of an element whose indices all name nodes: x, y, z of each place in turn.
-pub fn gather(coordinates: &[i32], ix: &[u32; 8]) -> [i32; 24]
+// The eight points of an element whose indices all name nodes: x, y, z of each place in turn, into p. They are lent: by value they would be copied twice on their way
+// to the search.
+pub fn gather(coordinates: &[i32], ix: &[u32; 8], p: &mut [i32; 24])
     requires { (k : ℕ) → k < 8 → get_or ix.now k 0 < length coordinates.now / 3 }
-    ensures { result ≡ points_of coordinates.now ix.now }
+    ensures { p.new ≡ points_of coordinates.now ix.now }
 {
-    let mut p = [0; 24];
     for (place, index) in ix.iter().enumerate() {
         let at = 3 * *index as usize;
         let x = coordinates[at];
@@ -40,5 +40,4 @@ pub fn gather(coordinates: &[i32], ix: &[u32; 8]) -> [i32; 24]
         p[3 * place + 1] = y;
         p[3 * place + 2] = z;
     }
-    p
 }
